@@ -1,43 +1,34 @@
 -- First readings, which leave what stood before them.
-use Rattle.std.proofs.Common.{Option, None, Some, ◌≡◌, ℕ, ◌<◌, ◌≤◌, Bool, true, false, List, [], ◌∷◌, length, encode_utf8_all, length-take, refl, ap, sym, ◌∙◌, arith}
+use Rattle.typst_bindings.proofs.Cited.{Option, ◌≡◌, ℕ, ◌<◌, ◌≤◌, Bool, false, List, length, encode_utf8_all, length-take, refl, ap, sym, ◌∙◌, arith, is_error, Level, hand_of, renewed, taken_node, run, after_node, count_empty, View, Fits, at, name_and_colon, Begins, begins-eat, begins-next, begins-then}
 use Rattle.std.proofs.lemmas.Str.{length-le-encodes}
-use Rattle.typst_kinds.specs.Kinds.{is_error}
 use Rattle.typst_lines.specs.Place.{Place, moved}
 use Rattle.typst_tree.specs.Tree.{text_of}
 use Rattle.typst_language.specs.Depth.{is_end}
 use Rattle.typst_language.specs.Hand.{Hand, hand_at, ahead, text_ahead}
-use Rattle.typst_language.specs.Meaning.{Level, hand_of, renewed, taken_node, run}
 use Rattle.typst_language.specs.Nodes.{token_node}
 use Rattle.typst_language.specs.Point.{Point, Trivia}
-use Rattle.typst_language.specs.Shape.{after_node, count_empty}
 use Rattle.typst_language.specs.Shape.Making.{itself}
 use Rattle.typst_language.specs.Sound.{Sound}
 use Rattle.typst_language.specs.Steps.{eat, eat_making}
 use Rattle.typst_language.specs.Syntax.{Parser}
 use Rattle.typst_language.specs.Syntax.Parser.{next}
-use Rattle.typst_language.specs.View.{View, Fits, at}
 use Rattle.typst_language.specs.declared.reading.Reading.{Reading}
-use Rattle.typst_language.proofs.Begins.{Begins, begins-eat, begins-next, begins-then}
 use Rattle.typst_language.proofs.Ends.{ahead-read, hand-takes}
 use Rattle.typst_language.proofs.Leaves.{text-made}
 use Rattle.typst_language.proofs.TokenTexts.{text-token}
-use Rattle.typst_bindings.specs.Patterns.{name_and_colon}
 
 -- ---- after a token
 
 -- the token at hand takes no more characters than there are
 hand-within : (l : Level) (held : Reading) (known : Option Trivia) (z : Place) → (hand_at l.classes held known z).len ≤ length (moved (hand_at l.classes held known z).gap z).ahead
 unfolding hand_at ahead
-hand-within l held None z = let r = ahead-read l.classes held.mode (length z.ahead) z in omega (arith, r.1)
-hand-within l held (Some t) z = omega arith
+hand-within l held known z = grind (arith, ahead-read)
 
 some-text : (xs : List ℕ) → 0 < length xs → count_empty xs ≡ 0
-some-text [] h = absurd (omega arith)
-some-text (x ∷ xs) h = refl
+some-text xs h = grind arith
 
 no-empties : (b : Bool) (text : List ℕ) (s : Point) → count_empty text ≡ 0 → (renewed (after_node b text s)).empties ≡ 0
-no-empties true text s e = e
-no-empties false text s e = refl
+no-empties b text s e = grind arith
 
 -- after a token that isn't the end no empty error stands
 pub eaten-some : {l : Level} {v : View} → Fits l v → is_end v.hand.kind ≡ false → (at l eat v).state.empties ≡ 0

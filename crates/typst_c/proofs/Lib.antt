@@ -3,5 +3,6 @@
 --   give (exports)                Refused: refused
 --   Handle::open, Handle::give    BoxAlike: E, FromHandle, FromOpened: a handle and its parts own what a box does
 mod BoxAlike
+pub mod Cited
 pub mod Columns
 pub mod Refused

@@ -1,8 +1,7 @@
 -- Refusals and their codes.
-use Rattle.std.proofs.Common.{◌≡◌, ◌==◌, ℕ, ◌<◌, List, refl, ap, sym, ◌∙◌, arith, if◌then◌else◌}
+use Rattle.typst_c.proofs.Cited.{◌≡◌, ◌==◌, ℕ, ◌<◌, List, refl, ap, sym, ◌∙◌, arith, if◌then◌else◌, code_of, RefusesBytes, RefusesText}
 use Rattle.typst_c.specs.declared.refusal.Refusal.{Refusal}
 use Rattle.typst_c.specs.declared.refusal.Refusal.TheVariants as refusal
-use Rattle.typst_c.specs.Refusals.{code_of, RefusesBytes, RefusesText}
 
 -- bytes that aren't read make no source
 pub of_bytes : (file : ℕ) (text : List ℕ) (e : Refusal) → RefusesBytes text e → RefusesText file text e

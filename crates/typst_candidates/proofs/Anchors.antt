@@ -1,17 +1,6 @@
 -- What is looked up from a place among the entries on.
-use Rattle.std.proofs.Common.{◌≡◌, ℕ, suc, ◌+◌, ◌-◌, ◌≤◌, ◌<◌, ◌==◌, nat_le, false, List, [], ◌∷◌, ◌++◌, length, take, drop, Option, Some, refl, ap, sym, subst, ◌∙◌, arith}
-use Rattle.std.proofs.lemmas.Bool.Decides.{nat_tests}
-use Rattle.std.proofs.lemmas.Option.{slice_get_within}
+use Rattle.typst_candidates.proofs.Cited.{◌≡◌, ℕ, suc, ◌+◌, ◌-◌, ◌≤◌, ◌<◌, List, [], ◌∷◌, ◌++◌, length, take, drop, Option, Some, ap, sym, ◌∙◌, arith, nat_tests, slice_get_within, slice_get, Window, Entry, AllLooksEnd, IsAnchor, inside_of, EntryPlace, after, entry_after, inside_after, piece_of, pieces_of, start_at, token_at, end_of, front_of, opening_of, within, Anchor}
 use Rattle.std.proofs.lemmas.List.{drop-append-le, drop-take, length-append, length-drop, length-take-le, take-append-drop, take-append-le}
-use Rattle.std.specs.List.{slice_get}
-use Rattle.typst_candidates.specs.declared.anchor.Anchor.{Anchor}
-use Rattle.typst_candidates.specs.declared.cuts.Window.{Window}
-use Rattle.typst_candidates.specs.declared.entry.Entry.{Entry}
-use Rattle.typst_candidates.specs.Anchors.{AllLooksEnd, IsAnchor, inside_of}
-use Rattle.typst_candidates.specs.Cursors.{EntryPlace, after, entry_after, inside_after, piece_of, pieces_of, start_at, token_at}
-use Rattle.typst_candidates.specs.Entries.{end_of, front_of}
-use Rattle.typst_candidates.specs.Records.{opening_of}
-use Rattle.typst_candidates.specs.Edges.{within}
 use Rattle.typst_candidates.proofs.Blocks.{opening-over}
 use Rattle.typst_candidates.proofs.Cursors.{after-found-in, end-after, inside-grows, one-further, start-on}
 use Rattle.typst_candidates.proofs.Tallies.{fewer}
@@ -26,8 +15,7 @@ same-front n es fs a h le same long =
     record { within = omega arith; start = rw few h.start; order = h.order; looks = rw few h.looks; first = h.first; outer = rw fewest h.outer; run = rw few h.run }
 
 pub anchor-append : (es : List Entry) (e : Entry) (a : Anchor) → IsAnchor es a → IsAnchor (es ++ e ∷ []) a
-anchor-append es e a h =
-    same-front (length es) es (es ++ e ∷ []) a h h.within (take-append-le (length es) es (e ∷ []) (omega arith)) (omega (arith, length-append es (e ∷ [])))
+anchor-append es e a h = grind (arith, same-front, take-append-le, length-append)
 
 -- ---- an entry more
 
@@ -54,19 +42,12 @@ pub record Further (es : List Entry) (n start reach : ℕ) : Type 0 where
   pub looks : AllLooksEnd reach 0 (take n es)
 
 pub goes-further : (es : List Entry) (n start end reach more : ℕ) (e : Entry) → slice_get es n ≡ Some e → start ≡ token_at (end_of 0 (take n es)) e → end ≡ start + e.forth → reach ≤ more → end ≤ more → AllLooksEnd reach 0 (take n es) → Further es (suc n) start more
-goes-further es n start end reach more e h s f le upto l =
-    let whole = one-further es n e h in
-    record {
-      start_is = s ∙ sym (ap (end_of 0) whole ∙ end-over 0 (take n es) (e ∷ []));
-      order = omega (arith, f, upto);
-      looks = subst (AllLooksEnd more 0) (sym whole) (looks-on more 0 (take n es) e (looks-more reach more 0 (take n es) le l) (omega (arith, s, f, upto)));
-    }
+goes-further es n start end reach more e h s f le upto l = grind (arith, one-further es n e h, end-over, looks-on, looks-more)
 
 pub run-further : (es : List Entry) (first n inside further : ℕ) (e : Entry) → slice_get es n ≡ Some e → first ≤ n → inside_of 0 (drop first (take n es)) ≡ Some inside → inside_after e.kind inside ≡ Some further
     → inside_of 0 (drop first (take (suc n) es)) ≡ Some further
 run-further es first n inside further e h le i b =
-    let split = drop-append-le first (take n es) (e ∷ []) (omega (arith, length-take-le n es (omega (arith, slice_get_within es n e h)), le)) in
-    ap (λ us. inside_of 0 (drop first us)) (one-further es n e h) ∙ ap (inside_of 0) split ∙ inside-on 0 inside further (drop first (take n es)) e i b
+    grind (arith, drop-append-le first (take n es) (e ∷ []) (omega (arith, length-take-le n es (omega (arith, slice_get_within es n e h)), le)), one-further, inside-on)
 
 -- a run begins in no block of it
 pub run-begins : (es : List Entry) (n : ℕ) → inside_of 0 (drop n (take n es)) ≡ Some 0
@@ -74,8 +55,7 @@ run-begins es n = let none : n ≡ n + 0 = omega arith in ap (λ m. inside_of 0 
 
 pub anchors : (es : List Entry) (n start reach first outer : ℕ) (a : Anchor) → n ≤ length es → first ≤ n → Further es n start reach → outer ≡ end_of 0 (take (first - 1) es) → inside_of 0 (drop first (take n es)) ≡ Some 0
     → a ≡ record { number = n; start = start; reach = reach; first = first; outer = outer } → IsAnchor es a
-anchors es n start reach first outer a within le h around run is =
-    subst (IsAnchor es) (sym is) (record { within = within; start = h.start_is; order = h.order; looks = h.looks; first = le; outer = around; run = run })
+anchors es n start reach first outer a within le h around run is = grind arith
 
 -- ---- on from an anchor, entry by entry
 
@@ -88,8 +68,7 @@ pub record Passed (es : List Entry) (a : Anchor) (p : EntryPlace) (reach inside 
   pub run : inside_of 0 (drop a.first (take p.number es)) ≡ Some inside
 
 pub at-anchor : (es : List Entry) (a : Anchor) (p : EntryPlace) → IsAnchor es a → p ≡ record { entries = es; number = a.number } → Passed es a p a.reach 0
-at-anchor es a p h is =
-    subst (λ q. Passed es a q a.reach 0) (sym is) (record { entries = refl; few = omega arith; after = omega arith; looks = h.looks; run = h.run })
+at-anchor es a p h is = grind arith
 
 further-on : (es : List Entry) (a : Anchor) (p q : EntryPlace) (e : Entry) (start end reach more inside : ℕ) → Passed es a p reach inside → ◌≡◌ {A = Option Entry} (Some e) (entry_after p) → q ≡ after (Some e) p
     → start ≡ start_at q → end ≡ start + e.forth → reach ≤ more → end ≤ more → Further es (suc p.number) start more
@@ -110,25 +89,11 @@ passed-on es a p q e start end reach more inside further h anchor there moved s 
     let here = after-found-in es p e h.entries there in
     let number : q.number ≡ suc p.number = ap (λ (r : EntryPlace). r.number) moved in
     let on = further-on es a p q e start end reach more inside h there moved s f le upto in
-    let after = h.after in
-    let few = h.few in
-    let run = run-further es a.first p.number inside further e here (omega (arith, after)) h.run b in
-    record {
-      passed = record {
-        entries = ap (λ (r : EntryPlace). r.entries) moved ∙ h.entries;
-        few = omega (arith, number, few, inside-grows e.kind inside further b);
-        after = omega (arith, number, after);
-        looks = subst (λ n. AllLooksEnd more 0 (take n es)) (sym number) on.looks;
-        run = ap (λ n. inside_of 0 (drop a.first (take n es))) number ∙ run;
-      };
-      further = subst (λ n. Further es n start more) (sym number) on;
-      within = omega (arith, number, slice_get_within es p.number e here);
-    }
+    grind (arith, run-further, inside-grows, slice_get_within)
 
 -- an anchor after that entry, in no block of the run
 pub anchor-on : (es : List Entry) (a b : Anchor) (p : EntryPlace) (start reach inside : ℕ) → PassedOn es a p start reach inside → IsAnchor es a → inside ≡ 0 → b ≡ record { number = p.number; start = start; reach = reach; first = a.first; outer = a.outer } → IsAnchor es b
-anchor-on es a b p start reach inside h anchor none is =
-    anchors es p.number start reach a.first a.outer b h.within (omega arith) h.further anchor.outer (h.passed.run ∙ ap (λ n. Some n) none) is
+anchor-on es a b p start reach inside h anchor none is = grind arith
 
 -- an anchor at the begin of the block that begins after another
 pub record AnchorIn (es : List Entry) (a b : Anchor) : Type 0 where
@@ -140,16 +105,7 @@ pub anchor-in : (es : List Entry) (a b : Anchor) (p q : EntryPlace) (e : Entry) 
 anchor-in es a b p q e start end more h at there moved s f le upto is =
     let passed = at-anchor es a p h at in
     let on = further-on es a p q e start end a.reach more 0 passed there moved s f le upto in
-    let here = after-found-in es p e passed.entries there in
-    let lt = slice_get_within es p.number e here in
-    let number : q.number ≡ suc p.number = ap (λ (r : EntryPlace). r.number) moved in
-    let first : p.number ≡ a.number = ap (λ (r : EntryPlace). r.number) at in
-    let last : b.number ≡ q.number = ap (λ (c : Anchor). c.number) is in
-    let around : a.number ≡ q.number - 1 = omega (arith, number, first) in
-    record {
-      anchor = anchors es q.number start more q.number a.start b (omega (arith, number, lt)) (omega arith) (subst (λ n. Further es n start more) (sym number) on) (h.start ∙ ap (λ n. end_of 0 (take n es)) around) (run-begins es q.number) is;
-      after = omega (arith, number, first, last);
-    }
+    grind (arith, after-found-in, slice_get_within, anchors, run-begins)
 
 -- ---- what comes after entries of which nothing is looked for
 
@@ -162,7 +118,6 @@ piece-split : (at inside start number now : ℕ) (us vs : List Entry) → inside
 piece-split at inside start number now [] vs h lt = grind arith
 piece-split at inside start number now (u ∷ us) vs h lt =
     let early : token_at start u < at = omega (arith, end-after (token_at start u) us) in
-    let other : (token_at start u == at) ≡ false = grind (arith, nat_tests) in
     let later = λ (m : ℕ) (q : inside_of m us ≡ Some now). piece-split at m (token_at start u) (suc number) now us vs q lt in
     grind (arith, later)
 
@@ -172,18 +127,13 @@ pieces-split : (w : Window) (inside start now : ℕ) (us vs : List Entry) → in
 pieces-split w inside start now [] vs h lt = grind arith
 pieces-split w inside start now (u ∷ us) vs h lt =
     let early : token_at start u < w.from = omega (arith, end-after (token_at start u) us) in
-    let out : nat_le w.from (token_at start u) ≡ false = grind (arith, nat_tests) in
     let later = λ (m : ℕ) (q : inside_of m us ≡ Some now). pieces-split w m (token_at start u) now us vs q lt in
     grind (arith, later)
 
 -- ---- the same from an anchor on
 
 pub front-from : (es : List Entry) (a : Anchor) (at : ℕ) → IsAnchor es a → a.reach ≤ at → a.number + front_of at a.start (drop a.number es) ≡ front_of at 0 es
-front-from es a at h le =
-    let whole = ap (front_of at 0) (take-append-drop a.number es) in
-    let long = length-take-le a.number es h.within in
-    let there = ap (λ s. front_of at s (drop a.number es)) h.start in
-    omega (arith, front-split at 0 (take a.number es) (drop a.number es) (looks-more a.reach at 0 (take a.number es) le h.looks), whole, long, there)
+front-from es a at h le = let whole = ap (front_of at 0) (take-append-drop a.number es) in grind (arith, length-take-le, front-split, looks-more)
 
 pub opening-at : (es : List Entry) (n start at : ℕ) → n ≤ length es → start ≡ end_of 0 (take n es) → start < at → opening_of at start n (drop n es) ≡ opening_of at 0 0 es
 opening-at es n start at within there lt =
@@ -193,8 +143,7 @@ pub opening-from : (es : List Entry) (a : Anchor) (at : ℕ) → IsAnchor es a �
 opening-from es a at h lt = opening-at es a.number a.start at h.within h.start lt
 
 pub opening-around : (es : List Entry) (a : Anchor) (at n : ℕ) → IsAnchor es a → n ≡ a.first - 1 → a.outer < at → opening_of at a.outer n (drop n es) ≡ opening_of at 0 0 es
-opening-around es a at n h is lt =
-    opening-at es n a.outer at (omega (arith, is)) (h.outer ∙ ap (λ m. end_of 0 (take m es)) (sym is)) lt
+opening-around es a at n h is lt = grind (arith, opening-at)
 
 -- the entries after some, up to more of them and after these
 record Parts (es : List Entry) (n m : ℕ) : Type 0 where
@@ -232,13 +181,4 @@ pub pieces-from : (es : List Entry) (a : Anchor) (n : ℕ) (w : Window) → IsAn
 pieces-from es a n w h after le run lt =
     let inside = h.within in
     let p = parts es n a.number le inside in
-    let end_is = p.end_is in
-    let us = drop a.first (take n es) in
-    let vs = drop n (take a.number es) in
-    let ws = drop a.number es in
-    let long = length-take-le n es (omega (arith, le, inside)) in
-    let both : us ++ vs ≡ drop a.first (take a.number es) = sym (drop-append-le a.first (take n es) vs (omega (arith, long, after))) ∙ ap (drop a.first) p.front in
-    let inner : inside_of 0 vs ≡ Some 0 = sym (inside-over 0 0 us vs run) ∙ ap (inside_of 0) both ∙ h.run in
-    sym
-    (ap (λ xs. within w (pieces_of 0 (end_of 0 (take n es)) xs)) p.rest ∙ pieces-split w 0 (end_of 0 (take n es)) 0 vs ws inner (omega (arith, end_is, lt))
-    ∙ ap (λ s. within w (pieces_of 0 s ws)) end_is)
+    grind (arith, length-take-le, drop-append-le, inside-over, pieces-split)

@@ -1,17 +1,5 @@
 -- Blocks of words that are passed over at once.
-use Rattle.std.proofs.Common.{◌≡◌, ℕ, zero, suc, ◌+◌, ◌-◌, ◌/◌, ◌%◌, ◌^◌, ◌≤◌, ◌<◌, max, true, if◌then◌else◌, List, [], ◌∷◌, ◌++◌, get_or, length, length-drop, map, take, drop, Option, None, Some, refl, ap, sym, subst, ◌∙◌, arith}
-use Rattle.std.proofs.Math.Seq.{take-add}
-use Rattle.std.proofs.lemmas.Bool.Decides.{nat_tests}
-use Rattle.std.proofs.lemmas.List.{take-append-drop}
-use Rattle.std.proofs.lemmas.Nat.{mod_below, pow_pos}
-use Rattle.std.specs.List.{slice_get}
-use Rattle.typst_candidates.specs.declared.entry.Entry.{Entry}
-use Rattle.typst_candidates.specs.declared.entry.EntryKind.{EntryKind}
-use Rattle.typst_candidates.specs.declared.packed.Packed.{Packed}
-use Rattle.typst_candidates.specs.Cursors.{AreNear, EntryPlace, GoBack, back_after, start_at}
-use Rattle.typst_candidates.specs.Entries.{end_of, front_of, is_after, rear_of}
-use Rattle.typst_candidates.specs.Packed.{beside, entry_by, entry_in, back_bits, filled, forth_bits, spans, entry_kinds, unpacked, wides, widths}
-use Rattle.typst_candidates.specs.Records.{opening_of}
+use Rattle.typst_candidates.proofs.Cited.{◌≡◌, ℕ, zero, suc, ◌+◌, ◌-◌, ◌/◌, ◌%◌, ◌^◌, ◌≤◌, ◌<◌, max, true, if◌then◌else◌, List, [], ◌∷◌, ◌++◌, get_or, length, length-drop, map, take, drop, Option, Some, refl, ap, sym, subst, ◌∙◌, arith, take-add, nat_tests, take-append-drop, slice_get, Entry, EntryKind, Packed, AreNear, EntryPlace, GoBack, back_after, start_at, end_of, front_of, is_after, rear_of, beside, entry_in, filled, spans, entry_kinds, unpacked, wides, opening_of}
 use Rattle.typst_candidates.proofs.Cursors.{cut, end-after}
 use Rattle.typst_candidates.proofs.Spans.{filled-end}
 use Rattle.typst_candidates.proofs.Walks.{end-over}
@@ -19,26 +7,18 @@ use Rattle.typst_candidates.proofs.Words.{by_kind, halves, wides-append}
 
 -- ---- what words hold
 
-forth-small : (t : EntryKind) (m : ℕ) → m % 2 ^ forth_bits t < 2 ^ 10
-forth-small t m = grind (arith, mod_below m (2 ^ 10) (pow_pos 10), mod_below m (2 ^ 6) (pow_pos 6))
-
-back-small : (t : EntryKind) (m : ℕ) → m % 2 ^ back_bits t < 2 ^ 4
-back-small t m = grind (arith, mod_below m (2 ^ 4) (pow_pos 4), mod_below m (2 ^ 2) (pow_pos 2))
-
 abbrev IsNear : Entry → Type 0
 IsNear e = (e.forth < 2 ^ 10) × (e.back < 2 ^ 4)
 
 near-kind : (o : Option EntryKind) (rest : ℕ) (e : Entry) → by_kind o rest ≡ Some e → IsNear e
-near-kind None rest e h = absurd (cc)
-near-kind (Some t) rest e h = let same : entry_by t (widths t) rest ≡ e = cc in subst IsNear same (forth-small t (rest / 2 ^ 8 / 2 ^ 4), back-small t (rest / 2 ^ 8 / 2 ^ 4 / 2 ^ forth_bits t))
+near-kind o rest e h = grind arith
 
 near-words : (ps : List Packed) → wides ps ≡ 0 → AreNear (unpacked ps [])
 near-words [] h = tt
 near-words (p ∷ ps) h = step (entry_in p) (λ e. near-kind (slice_get entry_kinds (p.word % 2 ^ 4)) (p.word / 2 ^ 4) e) (near-words ps) h
   where
     step : (o : Option Entry) → ((e : Entry) → o ≡ Some e → IsNear e) → (wides ps ≡ 0 → AreNear (unpacked ps [])) → beside o + wides ps ≡ 0 → AreNear (filled (o ∷ map entry_in ps) [])
-    step None f rest n = absurd (omega (arith, n))
-    step (Some e) f rest n = let near = f e refl in (near.0, near.1, rest (omega (arith, n)))
+    step o f rest n = grind arith
 
 pub record IsBlock (es : List Entry) (n m span : ℕ) : Type 0 where
   pub span_is : (start : ℕ) → end_of start (take m (drop n es)) ≡ start + span
@@ -50,9 +30,7 @@ block-of ps ws n m span within h none sum =
     let k = wides (take n ps) in
     let a = halves ps ws n (omega arith) h in
     let all : wides (drop n ps) ≡ length (drop k ws) = omega (arith, ap wides (take-append-drop n ps), wides-append (take n ps) (drop n ps), length-drop k ws) in
-    let b = halves (drop n ps) (drop k ws) m (omega (arith, length-drop n ps)) all in
-    let is : take m (drop n (unpacked ps ws)) ≡ unpacked (take m (drop n ps)) [] = ap (take m) a.back ∙ b.front ∙ ap (λ j. unpacked (take m (drop n ps)) (take j (drop k ws))) none in
-    record { span_is = λ start. omega (arith, filled-end (map entry_in (take m (drop n ps))) [] start none, ap (end_of start) is); near = subst AreNear (sym is) (near-words (take m (drop n ps)) none) }
+    grind (arith, halves, length-drop, filled-end, near-words)
 
 -- ---- passing over entries
 
@@ -83,8 +61,7 @@ rear-none at start count (y ∷ ys) back h a b = grind (arith, far at start y.ba
 -- entries whose looks begin after a byte, except for those of their first, are passed over
 pub rear-over : (at start count : ℕ) (xs : List Entry) (y : Entry) (ys : List Entry) (back : ℕ) → is_after at (end_of start (xs ++ y ∷ ys)) back ≡ true → AreNear (y ∷ ys) → at + 2 ^ 4 ≤ end_of start xs
     → rear_of at start count (xs ++ y ∷ ys) back ≡ rear_of at start count xs y.back
-rear-over at start count [] y ys back b a h =
-    omega (arith, rear-none at ((start + y.step) + y.gap) (suc count) ys back (omega (arith, h)) a.2 b)
+rear-over at start count [] y ys back b a h = grind (arith, rear-none)
 rear-over at start count (x ∷ xs) y ys back b a h =
     let here = (start + x.step) + x.gap in
     ap (max (if is_after at start x.back then 0 else count)) (rear-over at here (suc count) xs y ys back b a h)
@@ -96,9 +73,7 @@ pub rear-block : (es : List Entry) (at back n : ℕ) (e : Entry) → slice_get e
     → rear_of at 0 0 (take (n + 16) es) back ≡ rear_of at 0 0 (take n es) e.back
 rear-block es at back n e here b near h =
     let block : take 16 (drop n es) ≡ e ∷ take 15 (drop (suc n) es) = ap (take 16) (cut es n e here) in
-    let whole = take-add n 16 es ∙ ap (λ us. take n es ++ us) block in
-    ap (λ us. rear_of at 0 0 us back) whole
-    ∙ rear-over at 0 0 (take n es) e (take 15 (drop (suc n) es)) back (ap (λ us. is_after at (end_of 0 us) back) (sym whole) ∙ b) (subst AreNear block near) h
+    grind (arith, take-add, rear-over)
 
 -- ---- far after a byte
 
@@ -119,9 +94,7 @@ back-words [] ws most h a = tt
 back-words (p ∷ ps) ws most h a = step (entry_in p) ws (λ e. near-kind (slice_get entry_kinds (p.word % 2 ^ 4)) (p.word / 2 ^ 4) e) a (λ vs. back-words ps vs most h)
   where
     step : (o : Option Entry) (vs : List Entry) → ((e : Entry) → o ≡ Some e → IsNear e) → GoBack most vs → ((us : List Entry) → GoBack most us → GoBack most (unpacked ps us)) → GoBack most (filled (o ∷ map entry_in ps) vs)
-    step None [] f b rest = tt
-    step None (v ∷ vs) f b rest = (b.0, rest vs b.1)
-    step (Some e) vs f b rest = let near = f e refl in let few = near.1 in (omega (arith, h, few), rest vs b)
+    step o vs f b rest = grind arith
 
 -- also after a place
 pub back-after : (ps : List Packed) (ws : List Entry) (n passed most : ℕ) → n ≤ length ps → passed ≡ wides (take n ps) → wides ps ≡ length ws → 2 ^ 4 ≤ most → GoBack most (drop passed ws) → GoBack most (drop n (unpacked ps ws))
@@ -152,8 +125,7 @@ first_back back (y ∷ ys) = y.back
 
 rear-cut : (at start count : ℕ) (xs ys : List Entry) (back most : ℕ) → at + most ≤ end_of start xs → GoBack most ys → back ≤ most → rear_of at start count (xs ++ ys) back ≡ rear_of at start count xs (first_back back ys)
 rear-cut at start count [] [] back most h a b = refl
-rear-cut at start count [] (y ∷ ys) back most h a b =
-    omega (arith, none-after at ((start + y.step) + y.gap) (suc count) ys back most (omega (arith, h)) a.1 b)
+rear-cut at start count [] (y ∷ ys) back most h a b = grind (arith, none-after)
 rear-cut at start count (x ∷ xs) ys back most h a b =
     let here = (start + x.step) + x.gap in
     ap (max (if is_after at start x.back then 0 else count)) (rear-cut at here (suc count) xs ys back most h a b)

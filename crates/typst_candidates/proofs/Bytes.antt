@@ -1,12 +1,5 @@
 -- Bytes that rise: where the pieces of a run begin.
-use Rattle.std.proofs.Common.{◌≡◌, ℕ, zero, suc, ◌<◌, ◌≤◌, Bool, true, false, if◌then◌else◌, List, [], ◌∷◌, length, get_or, Option, None, Some, Result, Ok, Err, refl, ap, sym, ◌∙◌, ⊎_elim, arith, eq-eqb}
-use Rattle.std.specs.Prelude.{◌==◌, ◌||◌}
-use Rattle.std.specs.Result.{MatchResult, is_ok}
-use Rattle.std.specs.List.Sorted.{IsNonDecreasing}
-use Rattle.std.proofs.lemmas.Bool.{cases_lt}
-use Rattle.std.proofs.lemmas.Bool.Decides.{nat_tests}
-use Rattle.typst_candidates.specs.declared.entry.Entry.{Entry}
-use Rattle.typst_candidates.specs.Candidates.{is_among}
+use Rattle.typst_candidates.proofs.Cited.{◌≡◌, ℕ, zero, suc, ◌<◌, ◌≤◌, Bool, true, false, if◌then◌else◌, List, [], ◌∷◌, length, get_or, Option, None, Some, Result, refl, ap, sym, ◌∙◌, arith, eq-eqb, cases_lt, nat_tests, Entry, is_among, MatchResult, is_ok, IsNonDecreasing, ◌==◌, ◌||◌}
 use Rattle.typst_candidates.specs.Cursors.{inside_after, leads, pieces_of, token_at}
 
 -- ---- whether a byte is among them
@@ -27,8 +20,7 @@ among-none b (x ∷ xs) h =
 pub found-among : (b : ℕ) (xs : List ℕ) (r : Result ℕ ℕ)
     → MatchResult r (λ i. (i < length xs) × (get_or xs i 0 ≡ b)) (λ i. (i ≤ length xs) × ((k : ℕ) → k < i → get_or xs k 0 < b) × ((k : ℕ) → i ≤ k → k < length xs → b < get_or xs k 0))
     → is_ok r ≡ is_among b xs
-found-among b xs (Ok i) h = sym (among-at b xs i h.0 h.1)
-found-among b xs (Err i) h = sym (among-none b xs (λ k w e. ⊎_elim (λ l. (let less = h.1 k l in omega (arith, less, e))) (λ l. (let more = h.2 k l w in omega (arith, more, e))) (cases_lt k i)))
+found-among b xs r h = grind (arith, among-at, among-none, cases_lt)
 
 -- ---- they rise
 
@@ -46,10 +38,7 @@ pieces-rise inside start (e ∷ es) = step (leads e.kind inside) (inside_after e
   where
     step : (b : Bool) (o : Option ℕ) → ((further : ℕ) → RiseFrom (token_at start e) (pieces_of further (token_at start e) es))
         → RiseFrom start (let after = elim o as (λ _. List ℕ) [ None ↦ [] | Some further ↦ pieces_of further (token_at start e) es ] in if b then token_at start e ∷ after else after)
-    step true None rest = (omega arith, tt)
-    step true (Some further) rest = (omega arith, rest further)
-    step false None rest = tt
-    step false (Some further) rest = rise-sooner start (token_at start e) (pieces_of further (token_at start e) es) (omega arith) (rest further)
+    step b o rest = grind (arith, rise-sooner)
 
 least-first : (a : ℕ) (xs : List ℕ) (k d : ℕ) → RiseFrom a xs → k < length xs → a ≤ get_or xs k d
 least-first a [] k d r h = absurd (omega (arith, h))

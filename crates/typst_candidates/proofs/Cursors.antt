@@ -1,14 +1,7 @@
 -- Places among entries: where they are, and where the next piece of a run begins.
-use Rattle.std.proofs.Common.{◌≡◌, ℕ, zero, suc, ◌+◌, ◌≤◌, ◌<◌, Bool, ◌==◌, ◌&&◌, ◌++◌, false, if◌then◌else◌, List, [], ◌∷◌, length, take, drop, drop-cons, Option, None, Some, refl, ap, sym, ◌∙◌, arith}
-use Rattle.std.proofs.Math.Seq.{take-suc}
-use Rattle.std.proofs.lemmas.Option.{slice_get_within, get_or_from_slice_get, slice_get-get_or}
-use Rattle.std.specs.List.{slice_get}
-use Rattle.typst_candidates.specs.declared.entry.Entry.{Entry}
-use Rattle.typst_candidates.specs.declared.entry.EntryKind.{EntryKind}
+use Rattle.typst_candidates.proofs.Cited.{◌≡◌, ℕ, zero, suc, ◌+◌, ◌≤◌, ◌<◌, Bool, ◌==◌, ◌&&◌, ◌++◌, false, if◌then◌else◌, List, [], ◌∷◌, length, take, drop, drop-cons, Option, None, Some, refl, ap, sym, ◌∙◌, arith, take-suc, slice_get_within, get_or_from_slice_get, slice_get-get_or, slice_get, Entry, EntryKind, end_of, after_first}
 use Rattle.typst_candidates.specs.declared.entry.EntryKind.TheVariants as entry_kind
-use Rattle.typst_candidates.specs.Entries.{end_of}
 use Rattle.typst_candidates.specs.Cursors.{EntryPlace, after, entry_after, inside_after, leads, start_at, token_at, pieces_of, pieces_in, piece_of, opens_content}
-use Rattle.typst_candidates.specs.Units.{after_first}
 use Rattle.typst_candidates.proofs.Walks.{end-append}
 
 -- ---- the entry of a number

@@ -1,10 +1,6 @@
 -- Children with their bytes, taken from the front.
-use Rattle.std.proofs.Common.{◌≡◌, ℕ, zero, suc, ◌+◌, ◌-◌, ◌^◌, ◌<◌, ◌≤◌, Bool, true, false, min, List, [], ◌∷◌, length, drop, get_or, refl, ap, sym, subst, ◌∙◌, arith, add-one, nat_lt, nat_le, drop_of_length-le}
-use Rattle.std.specs.Prelude.{◌||◌, not, max}
-use Rattle.std.proofs.lemmas.Bool.Decides.{nat_tests}
-use Rattle.typst_tree.specs.Tree.{Tree, text_of, saturated}
+use Rattle.typst_candidates.proofs.Cited.{◌≡◌, ℕ, zero, suc, ◌+◌, ◌-◌, ◌^◌, ◌<◌, ◌≤◌, Bool, true, false, min, List, [], ◌∷◌, length, drop, get_or, refl, ap, sym, subst, ◌∙◌, arith, add-one, nat_lt, nat_le, drop_of_length-le, nat_tests, Tree, text_of, saturated, first_near, end_near, clings, leads, with_hash, around, Child, laid, begins, begun, ended, holds_at, back_past, on_past, ◌||◌, not, max}
 pub use Rattle.typst_tree.proofs.SpansAside.{trees_forest}
-use Rattle.typst_candidates.specs.Candidates.{first_near, end_near, clings, leads, with_hash, around, Child, laid, begins, begun, ended, holds_at, back_past, on_past}
 
 pub laid_length : (at : ℕ) (ts : List Tree) → length (laid at ts) ≡ length ts
 laid_length at [] = refl
@@ -46,12 +42,7 @@ pub record Stepped (at : ℕ) (ts : List Tree) (n len : ℕ) : Type 0 where
   pub fits : begins at ts (n + 1) < 2 ^ 64
 
 pub stepped : (at : ℕ) (ts : List Tree) (n : ℕ) (d : Tree) (len : ℕ) → n < length ts → begins at ts (length ts) < 2 ^ 64 → len ≡ saturated (length (text_of (get_or ts n d))) → Stepped at ts n len
-stepped at ts n d len h fits is =
-    let next = begins_next at ts n d h in
-    let most = begins_most at ts (n + 1) (omega arith) in
-    let small : length (text_of (get_or ts n d)) < 2 ^ 64 = omega (arith, next, most, fits) in
-    let exact : len ≡ length (text_of (get_or ts n d)) = omega (arith, is, small) in
-    record { next = omega (arith, next, exact); fits = omega (arith, most, fits) }
+stepped at ts n d len h fits is = grind (arith, begins_next, begins_most)
 
 -- ---- tests of one child
 
@@ -77,18 +68,13 @@ holds_none f at (x ∷ ts) (suc n) h = holds_none f (at + length (text_of x)) ts
 -- ---- steps back and on
 
 pub back_step : (f : ℕ → Bool) (n : ℕ) → 0 < n → f n ≡ true → back_past f n ≡ back_past f (n - 1)
-back_step f zero h e = absurd (omega arith)
-back_step f (suc n) h e = let less : suc n - 1 ≡ n = omega arith in rw (e, less) refl
+back_step f n h e = grind arith
 
 pub back_stop : (f : ℕ → Bool) (n : ℕ) → f n ≡ false → back_past f n ≡ n
-back_stop f zero e = refl
-back_stop f (suc n) e = rw e refl
+back_stop f n e = grind arith
 
 pub on_step : (f : ℕ → Bool) (all n : ℕ) → n < all → f n ≡ true → on_past f (all - n) n ≡ on_past f (all - (n + 1)) (n + 1)
-on_step f all n h e =
-    let more : all - n ≡ suc (all - (n + 1)) = omega arith in
-    let next : n + 1 ≡ suc n = omega arith in
-    rw more (rw e (ap (on_past f (all - (n + 1))) (sym next)))
+on_step f all n h e = grind arith
 
 -- ---- how many begin before a byte
 
@@ -115,33 +101,25 @@ pub begun_stop : (b at : ℕ) (ts : List Tree) (n : ℕ) → Begun b at ts n →
 begun_stop b at ts n known h = omega (arith, known, begun_none b (begins at ts n) (drop n ts) h)
 
 pub begun_all : (b at : ℕ) (ts : List Tree) (n : ℕ) → Begun b at ts n → length ts ≤ n → begun b (laid at ts) ≡ n
-begun_all b at ts n known h =
-    omega (arith, known, ap (λ us. begun b (laid (begins at ts n) us)) (drop_of_length-le ts h))
+begun_all b at ts n known h = grind (arith, drop_of_length-le)
 
 -- where one begins before a byte, so do those before it
 pub begun_upto : (b at : ℕ) (ts : List Tree) (n : ℕ) → n < length ts → begins at ts n < b → Begun b at ts (n + 1)
 begun_upto b at ts zero h lt = begun_next b at ts 0 (begun_first b at ts) h lt
 begun_upto b at ts (suc n) h lt =
     let earlier : Begun b at ts (n + 1) = begun_upto b at ts n (omega (arith, h)) (omega (arith, lt, begins_order at ts n (suc n) (omega arith))) in
-    let next : n + 1 ≡ suc n = omega arith in
-    begun_next b at ts (suc n) (subst (Begun b at ts) next earlier) h lt
+    grind (arith, begun_next)
 
 -- ---- how many end at a byte or before it
 
 ended_suc : (b at : ℕ) (ts : List Tree) (n : ℕ) → n < length ts → begins at ts (suc n) ≤ b → ended b (laid (begins at ts n) (drop n ts)) ≡ suc (ended b (laid (begins at ts (suc n)) (drop (suc n) ts)))
 ended_suc b at [] n h le = absurd (omega arith)
-ended_suc b at (x ∷ ts) zero h le =
-    let here : at + length (text_of x) ≤ b = omega (arith, le, begins_first (at + length (text_of x)) ts) in
-    let yes : nat_le (at + length (text_of x)) b ≡ true = grind (arith, nat_tests) in
-    rw (yes, begins_first (at + length (text_of x)) ts) refl
+ended_suc b at (x ∷ ts) zero h le = grind (arith, begins_first, nat_tests)
 ended_suc b at (x ∷ ts) (suc n) h le = ended_suc b (at + length (text_of x)) ts n (omega arith) le
 
 ended_none : (b at : ℕ) (ts : List Tree) (n : ℕ) → n < length ts → b < begins at ts (suc n) → ended b (laid (begins at ts n) (drop n ts)) ≡ 0
 ended_none b at [] n h lt = absurd (omega arith)
-ended_none b at (x ∷ ts) zero h lt =
-    let here : b < at + length (text_of x) = omega (arith, lt, begins_first (at + length (text_of x)) ts) in
-    let no : nat_le (at + length (text_of x)) b ≡ false = grind (arith, nat_tests) in
-    rw no refl
+ended_none b at (x ∷ ts) zero h lt = grind (arith, begins_first, nat_tests)
 ended_none b at (x ∷ ts) (suc n) h lt = ended_none b (at + length (text_of x)) ts n (omega arith) lt
 
 -- the first n end at a byte or before it, and it is asked of the others
@@ -158,24 +136,18 @@ ended_from b at (x ∷ ts) (suc n) h le =
     rw yes (omega (arith, ended_from b (at + length (text_of x)) ts n (omega arith) (λ _. last)))
 
 pub ended_next : (b at : ℕ) (ts : List Tree) (n : ℕ) → Ended b at ts n → n < length ts → begins at ts (n + 1) ≤ b → Ended b at ts (n + 1)
-ended_next b at ts n known h le =
-    rw add-one (omega (arith, known, ended_suc b at ts n h (rw add-one at le)))
+ended_next b at ts n known h le = grind (arith, add-one, ended_suc)
 
 pub ended_stop : (b at : ℕ) (ts : List Tree) (n : ℕ) → Ended b at ts n → n < length ts → b < begins at ts (n + 1) → ended b (laid at ts) ≡ n
-ended_stop b at ts n known h lt =
-    omega (arith, known, ended_none b at ts n h (rw add-one at lt))
+ended_stop b at ts n known h lt = grind (arith, ended_none, add-one)
 
 pub ended_all : (b at : ℕ) (ts : List Tree) (n : ℕ) → Ended b at ts n → length ts ≤ n → ended b (laid at ts) ≡ n
-ended_all b at ts n known h =
-    omega (arith, known, ap (λ us. ended b (laid (begins at ts n) us)) (drop_of_length-le ts h))
+ended_all b at ts n known h = grind (arith, drop_of_length-le)
 
 -- ---- the children near an edit
 
 pub first_stop : (b at : ℕ) (ts : List Tree) (n m : ℕ) → Begun b at ts n → b ≤ begins at ts n → m ≡ n - 1 → m ≡ first_near b (laid at ts)
 first_stop b at ts n m known h e = omega (arith, e, begun_stop b at ts n known h)
-
-pub first_all : (b at : ℕ) (ts : List Tree) (n m : ℕ) → Begun b at ts n → length ts ≤ n → m ≡ n - 1 → m ≡ first_near b (laid at ts)
-first_all b at ts n m known h e = omega (arith, e, begun_all b at ts n known h)
 
 -- from the last one back
 begun_here : (b at : ℕ) (ts : List Tree) (n : ℕ) → Begun b at ts n → (n < length ts → b ≤ begins at ts n) → begun b (laid at ts) ≡ n
@@ -188,9 +160,7 @@ back_stop_first b at ts n m within after some e lt =
     omega (arith, e, begun_here b at ts n known after)
 
 pub back_all_first : (b at : ℕ) (ts : List Tree) (n : ℕ) → (n < length ts → b ≤ begins at ts n) → n ≡ 0 → n ≡ first_near b (laid at ts)
-back_all_first b at ts n after e =
-    let known : Begun b at ts n = subst (Begun b at ts) (sym e) (begun_first b at ts) in
-    omega (arith, e, begun_here b at ts n known after)
+back_all_first b at ts n after e = let known : Begun b at ts n = subst (Begun b at ts) (sym e) (begun_first b at ts) in grind (arith, begun_here)
 
 pub end_stop : (b at : ℕ) (ts : List Tree) (n m : ℕ) → Ended b at ts n → n < length ts → b < begins at ts (n + 1) → m ≡ n + 1 → m ≡ end_near b (laid at ts)
 end_stop b at ts n m known h lt e = omega (arith, e, ended_stop b at ts n known h lt, laid_length at ts)
@@ -207,8 +177,4 @@ pub around_is : (cuts : List ℕ) (at : ℕ) (ts : List Tree) (i j x back left h
     → right ≡ min (j + x) (length ts)
     → to ≡ on_past (holds_at (λ c. clings c.node || not (leads cuts c)) (laid at ts)) (length ts - right) right
     → record { from = from; to = to } ≡ around cuts (laid at ts) i j x
-around_is cuts at ts i j x back left hash from right to b l h f r t =
-    let steps = f ∙ ap (back_past (holds_at (λ c. not (leads cuts c)) (laid at ts))) (h ∙ ap (with_hash (laid at ts)) (l ∙ ap (back_past (holds_at (λ c. clings c.node) (laid at ts))) b)) in
-    let long : length ts ≡ length (laid at ts) = sym (laid_length at ts) in
-    let ends = t ∙ (λ k. on_past (holds_at (λ c. clings c.node || not (leads cuts c)) (laid at ts)) (long k - (r ∙ ap (min (j + x)) long) k) ((r ∙ ap (min (j + x)) long) k)) in
-    λ k. record { from = steps k; to = ends k }
+around_is cuts at ts i j x back left hash from right to b l h f r t = grind (arith, laid_length)

@@ -1,22 +1,9 @@
 -- Candidates one after the other.
-use Rattle.std.proofs.Common.{◌≡◌, ℕ, zero, suc, ◌+◌, ◌-◌, ◌*◌, ◌^◌, ◌<◌, ◌≤◌, max, min, Bool, true, false, List, [], ◌∷◌, ◌++◌, length, take, get_or, refl, ap, sym, ◌∙◌, arith, append_assoc, if◌then◌else◌, Some, None, length-append}
-use Rattle.std.specs.Prelude.{◌==◌, map, Option}
-use Rattle.std.proofs.lemmas.Bool.Decides.{nat_tests}
-use Rattle.std.proofs.lemmas.List.{append-nil, map-append, take-take, take_at}
-use Rattle.typst_kinds.specs.declared.kind.SyntaxKind.{SyntaxKind}
-use Rattle.typst_language.specs.declared.calls.Note.{Note}
-use Rattle.typst_tree.specs.Tree.{Tree, Forest, none, more, forest, trees, joined, text_of, count, nodes}
+use Rattle.typst_candidates.proofs.Cited.{◌≡◌, ℕ, zero, suc, ◌+◌, ◌-◌, ◌*◌, ◌^◌, ◌<◌, ◌≤◌, min, Bool, true, false, List, [], ◌∷◌, ◌++◌, length, take, get_or, refl, ap, sym, ◌∙◌, arith, append_assoc, if◌then◌else◌, Some, None, length-append, nat_tests, append-nil, map-append, take-take, take_at, SyntaxKind, Note, Tree, Forest, none, more, forest, trees, joined, text_of, count, nodes, Candidate, Child, ChildRange, laid, child_at, begins, around, is_all, child_ranges, of_children, of_child_ranges, of_run, of_block, covers, run_in, candidates_at, IsEdge, IsNear, indices, spelled, is_covered, below, Near, ◌==◌, map, Option}
 pub use Rattle.typst_tree.proofs.SpansAside.{forest_trees}
 use Rattle.typst_candidates.specs.declared.candidate.Candidate as found
-use Rattle.typst_candidates.specs.declared.children.Near.{Near}
 use Rattle.typst_candidates.specs.declared.children.ChildRange as children
-use Rattle.typst_candidates.specs.Candidates.{Candidate, Child, ChildRange, laid, child_at, begins, first_near, around, is_all, child_ranges, of_children, of_child_ranges, of_run, of_block, covers, run_in, candidates_at}
-use Rattle.typst_candidates.specs.Edges.{IsEdge, IsNear, indices, spelled, is_covered, below}
 use Rattle.typst_candidates.proofs.Edges.{laid_length, begins_next, begins_most}
-
-take_nothing : {X : Type 0} (n : ℕ) → take {A = X} n [] ≡ []
-take_nothing zero = refl
-take_nothing (suc n) = refl
 
 -- ---- stretches one after the other
 
@@ -31,8 +18,7 @@ fewer_tries cuts cs i j (suc m) (suc tries) x =
   where
     after : (b : Bool) → child_ranges cuts cs i j (min m tries) (2 * x) ≡ take m (child_ranges cuts cs i j tries (2 * x))
         → (if b then [] else child_ranges cuts cs i j (min m tries) (2 * x)) ≡ take m (if b then [] else child_ranges cuts cs i j tries (2 * x))
-    after true further = sym (take_nothing m)
-    after false further = further
+    after b further = grind arith
 
 first_ranges : (path : List ℕ) (at : ℕ) (ts : List Tree) (m : ℕ) (ss : List ChildRange) → of_child_ranges path at ts (take m ss) ≡ take m (of_child_ranges path at ts ss)
 first_ranges path at ts zero ss = refl
@@ -49,12 +35,7 @@ no_more path cuts at ts i j tries x cs over = sym (append-nil cs) ∙ ap (λ (n 
 
 -- with as many more children as there are, all are taken
 all_taken : (cuts : List ℕ) (at : ℕ) (ts : List Tree) (i j x : ℕ) → i ≤ length ts → length ts ≤ x → is_all (laid at ts) (around cuts (laid at ts) i j x) ≡ true
-all_taken cuts at ts i j x h le =
-    let left : i - max x 2 ≡ 0 = omega arith in
-    let right : min (j + x) (length (laid at ts)) ≡ length (laid at ts) = omega (arith, laid_length at ts) in
-    let rest : length (laid at ts) - length (laid at ts) ≡ 0 = omega arith in
-    let same : (length (laid at ts) == length (laid at ts)) ≡ true = grind (arith, nat_tests) in
-    rw (left, right, rest, same) refl
+all_taken cuts at ts i j x h le = grind (arith, laid_length, nat_tests)
 
 pub not_all : (cuts : List ℕ) (at : ℕ) (ts : List Tree) (i j x : ℕ) → i ≤ length ts → is_all (laid at ts) (around cuts (laid at ts) i j x) ≡ false → x < length ts
 not_all cuts at ts i j x h e = grind (arith, all_taken cuts at ts i j x h)
@@ -66,10 +47,7 @@ all_by_test cs w s b e f = ap (is_all cs) (sym e) ∙ f
 pub one_piece : (path : List ℕ) (depth at : ℕ) (ts : List Tree) (w : children.ChildRange) (s : ChildRange) (c : found.Candidate) → IsEdge at ts w.from → IsEdge at ts w.to → indices w ≡ s
     → c ≡ record { is_block = false; depth = depth; from = w.from.index; to = w.to.index; start = w.from.byte; end = w.to.byte }
     → spelled path c ≡ of_children false (take depth path) at ts s.from s.to
-one_piece path depth at ts w s c from to e is =
-    ap (spelled path) is
-    ∙ ((λ k. record { is_block = false; path = take depth path; from = w.from.index; to = w.to.index; start = from.byte k; end = to.byte k })
-    ∙ ap (λ (p : ChildRange). of_children false (take depth path) at ts p.from p.to) e)
+one_piece path depth at ts w s c from to e is = grind arith
 
 module _ (cuts : List ℕ) (at : ℕ) (ts : List Tree) (i j : ℕ) (path : List ℕ) (depth tries n x : ℕ) (items later : List found.Candidate) (c : found.Candidate) where
   pushed : later ≡ items ++ c ∷ [] → map (spelled path) later ≡ map (spelled path) items ++ spelled path c ∷ []
@@ -78,18 +56,13 @@ module _ (cuts : List ℕ) (at : ℕ) (ts : List Tree) (i j : ℕ) (path : List 
   pub last_piece : n < tries → later ≡ items ++ c ∷ [] → spelled path c ≡ of_children false (take depth path) at ts (around cuts (laid at ts) i j x).from (around cuts (laid at ts) i j x).to
       → is_all (laid at ts) (around cuts (laid at ts) i j x) ≡ true
       → map (spelled path) items ++ of_child_ranges (take depth path) at ts (child_ranges cuts (laid at ts) i j (tries - n) x) ≡ map (spelled path) later
-  last_piece lt e is all =
-      let turn : tries - n ≡ suc (tries - (n + 1)) = omega arith in
-      rw (turn, all) (ap (λ (d : Candidate). map (spelled path) items ++ d ∷ []) (sym is) ∙ sym (pushed e))
+  last_piece lt e is all = grind (arith, pushed)
 
   pub next_piece : n < tries → later ≡ items ++ c ∷ [] → spelled path c ≡ of_children false (take depth path) at ts (around cuts (laid at ts) i j x).from (around cuts (laid at ts) i j x).to
       → is_all (laid at ts) (around cuts (laid at ts) i j x) ≡ false
       → map (spelled path) items ++ of_child_ranges (take depth path) at ts (child_ranges cuts (laid at ts) i j (tries - n) x)
       ≡ map (spelled path) later ++ of_child_ranges (take depth path) at ts (child_ranges cuts (laid at ts) i j (tries - (n + 1)) (2 * x))
-  next_piece lt e is all =
-      let turn : tries - n ≡ suc (tries - (n + 1)) = omega arith in
-      rw (turn, all) (ap (λ (d : Candidate). map (spelled path) items ++ d ∷ of_child_ranges (take depth path) at ts (child_ranges cuts (laid at ts) i j (tries - (n + 1)) (2 * x))) (sym is)
-      ∙ sym (ap (λ (ds : List Candidate). ds ++ of_child_ranges (take depth path) at ts (child_ranges cuts (laid at ts) i j (tries - (n + 1)) (2 * x))) (pushed e) ∙ append_assoc (map (spelled path) items) (spelled path c ∷ []) (of_child_ranges (take depth path) at ts (child_ranges cuts (laid at ts) i j (tries - (n + 1)) (2 * x)))))
+  next_piece lt e is all = grind (arith, pushed, append_assoc)
 
 -- ---- a node and its child
 
@@ -106,35 +79,12 @@ child_none at (x ∷ ts) (suc n) h = child_none (at + length (text_of x)) ts n (
 at_index : (ns : List Note) (rs re : ℕ) (path : List ℕ) (run : Option (List ℕ)) (i at : ℕ) (f : Forest) (c : Child) → child_at (laid at (trees f)) i ≡ Some c → candidates_at ns rs re path run i at f ≡ candidates_at ns rs re path run 0 c.start (forest (c.node ∷ []))
 unfolding candidates_at
 at_index ns rs re path run i at none c e = absurd (cc)
-at_index ns rs re path run zero at (more h ks r) c e =
-    let same : record { start = at; end = at + length (h.text ++ joined ks); node = record { head = h; kids = ks } } ≡ c = cc in
-    ap (λ (d : Child). candidates_at ns rs re path run 0 d.start (forest (d.node ∷ []))) same
+at_index ns rs re path run zero at (more h ks r) c e = grind arith
 at_index ns rs re path run (suc i) at (more h ks r) c e = at_index ns rs re path run i (at + length (h.text ++ joined ks)) r c e
 
 pub node_is : (ns : List Note) (rs re : ℕ) (path : List ℕ) (run : Option (List ℕ)) (at : ℕ) (t : Tree) → candidates_at ns rs re path run 0 at (forest (t ∷ [])) ≡ below ns rs re path at t ++ of_run rs re path (at + length t.head.text) (trees t.kids) run
 unfolding candidates_at
-node_is ns rs re path run at t = ap (λ (xs : List Candidate). xs ++ of_run rs re path (at + length t.head.text) (trees t.kids) run) (inner (child_at (laid (at + length t.head.text) (trees t.kids)) (first_near rs (laid (at + length t.head.text) (trees t.kids)))) refl)
-  where
-    inner : (o : Option Child) → child_at (laid (at + length t.head.text) (trees t.kids)) (first_near rs (laid (at + length t.head.text) (trees t.kids))) ≡ o
-        → (elim o as (λ _. List Candidate) [
-          | None ↦ []
-          | Some c ↦ if covers rs re (laid (at + length t.head.text) (trees t.kids)) (first_near rs (laid (at + length t.head.text) (trees t.kids))) c
-              then candidates_at ns rs re (path ++ first_near rs (laid (at + length t.head.text) (trees t.kids)) ∷ []) (run_in ns at t.head.kind c.node.head.kind) (first_near rs (laid (at + length t.head.text) (trees t.kids))) (at + length t.head.text) t.kids
-              ++ of_block path (at + length t.head.text) (trees t.kids) (first_near rs (laid (at + length t.head.text) (trees t.kids))) c.node.head.kind
-              else []
-        ])
-        ≡ (elim o as (λ _. List Candidate) [
-          | None ↦ []
-          | Some c ↦ if covers rs re (laid (at + length t.head.text) (trees t.kids)) (first_near rs (laid (at + length t.head.text) (trees t.kids))) c
-              then candidates_at ns rs re (path ++ first_near rs (laid (at + length t.head.text) (trees t.kids)) ∷ []) (run_in ns at t.head.kind c.node.head.kind) 0 c.start (forest (c.node ∷ []))
-              ++ of_block path (at + length t.head.text) (trees t.kids) (first_near rs (laid (at + length t.head.text) (trees t.kids))) c.node.head.kind
-              else []
-        ])
-    inner None e = refl
-    inner (Some c) e = λ k. if covers rs re (laid (at + length t.head.text) (trees t.kids)) (first_near rs (laid (at + length t.head.text) (trees t.kids))) c
-        then at_index ns rs re (path ++ first_near rs (laid (at + length t.head.text) (trees t.kids)) ∷ []) (run_in ns at t.head.kind c.node.head.kind) (first_near rs (laid (at + length t.head.text) (trees t.kids))) (at + length t.head.text) t.kids c e k
-        ++ of_block path (at + length t.head.text) (trees t.kids) (first_near rs (laid (at + length t.head.text) (trees t.kids))) c.node.head.kind
-        else []
+node_is ns rs re path run at t = grind (arith, at_index)
 
 pub begins_end : (at : ℕ) (ts : List Tree) → begins at ts (length ts) ≡ at + length (joined (forest ts))
 begins_end at [] = omega arith
@@ -142,9 +92,7 @@ begins_end at (t ∷ ts) = omega (arith, begins_end (at + length (text_of t)) ts
 
 -- a node ends where its last child does
 pub ends_of : (at a : ℕ) (t : Tree) (ts : List Tree) → ts ≡ trees t.kids → a ≡ at + length t.head.text → begins a ts (length ts) ≡ at + length (text_of t)
-ends_of at a t ts e p =
-    let kids : joined (forest ts) ≡ joined t.kids = ap (λ us. joined (forest us)) e ∙ ap joined (forest_trees t.kids) in
-    omega (arith, p, begins_end a ts, ap length kids, length-append t.head.text (joined t.kids))
+ends_of at a t ts e p = grind (arith, forest_trees, begins_end, length-append)
 
 -- the end of a node can be counted, and so can its children's
 pub fits_of : (at a : ℕ) (t : Tree) (ts : List Tree) → ts ≡ trees t.kids → a ≡ at + length t.head.text → at + length (text_of t) < 2 ^ 64 → begins a ts (length ts) < 2 ^ 64
@@ -188,8 +136,7 @@ Rest ns rs re path at parent a ts i o = elim o as (λ _. List Candidate) [
 module _ (ns : List Note) (rs re : ℕ) (path : List ℕ) (at a : ℕ) (t : Tree) (ts : List Tree) (near : Near) (kids : trees t.kids ≡ ts) (inside : at + length t.head.text ≡ a) (is : IsNear a ts rs re near) where
   -- the same over the children at hand
   in_hand : below ns rs re path at t ≡ Rest ns rs re path at t.head.kind a ts near.first.index (child_at (laid a ts) near.first.index)
-  in_hand = (λ k. Rest ns rs re path at t.head.kind (inside k) (kids k) (first_near rs (laid (inside k) (kids k))) (child_at (laid (inside k) (kids k)) (first_near rs (laid (inside k) (kids k)))))
-      ∙ ap (λ (i : ℕ). Rest ns rs re path at t.head.kind a ts i (child_at (laid a ts) i)) (sym is.first)
+  in_hand = grind arith
 
   pub below_none : length ts ≤ near.first.index → below ns rs re path at t ≡ []
   below_none h = in_hand ∙ ap (Rest ns rs re path at t.head.kind a ts near.first.index) (child_none a ts near.first.index h)

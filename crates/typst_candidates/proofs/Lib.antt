@@ -26,4 +26,5 @@ pub mod Passes
 pub mod Openings
 pub mod Tallies
 pub mod Anchors
+pub mod Cited
 pub mod Starts

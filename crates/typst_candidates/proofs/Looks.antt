@@ -1,10 +1,5 @@
 -- What the numbers of records decide.
-use Rattle.std.proofs.Common.{◌≡◌, ℕ, suc, ◌+◌, ◌-◌, ◌≤◌, ◌<◌, ◌↔◌, max, nat_le, Bool, true, if◌then◌else◌, List, [], ◌∷◌, ◌++◌, length, refl, ap, sym, subst, arith}
-use Rattle.std.proofs.lemmas.Bool.Decides.{nat_tests}
-use Rattle.typst_language.specs.declared.calls.Note.{Note}
-use Rattle.typst_candidates.specs.declared.entry.Entry.{Entry}
-use Rattle.typst_candidates.specs.Entries.{back_of, entry_of, entries_by, last_start, front_of, is_after, rear_of}
-use Rattle.typst_candidates.specs.Records.{IsRising, AllEnd, AllBegin, FrontLaw, RearLaw}
+use Rattle.typst_candidates.proofs.Cited.{◌≡◌, ℕ, suc, ◌+◌, ◌-◌, ◌≤◌, ◌<◌, ◌↔◌, max, nat_le, Bool, true, if◌then◌else◌, List, [], ◌∷◌, ◌++◌, length, refl, ap, sym, subst, arith, nat_tests, Note, Entry, back_of, entry_of, entries_by, last_start, front_of, is_after, rear_of, IsRising, AllEnd, AllBegin, FrontLaw, RearLaw}
 
 -- the token of a note begins where its entry says
 here-is : (start : ℕ) (n : Note) → start ≤ n.before → n.before ≤ n.start → (start + (n.before - start)) + (n.start - n.before) ≡ n.start
@@ -26,10 +21,7 @@ counted at reach start rest b e s n = (λ h. grind (arith, nat_tests), λ h. gri
 
 front-by : (ns more : List Note) (n : Note) (at start : ℕ) → IsRising start (ns ++ n ∷ more) → n.start ≤ at
     → (length ns < front_of at start (entries_by start (ns ++ n ∷ more)) ↔ AllEnd at (ns ++ n ∷ []))
-front-by [] more n at start r h =
-    let e = step-front at start n (entries_by n.start more) r.0 r.1 in
-    let c = counted at n.reach n.start (front_of at n.start (entries_by n.start more)) _ refl h 0 in
-    ((λ l. ((c.0 (subst (λ j. 0 < j) e l)).0, tt)), (λ a. subst (λ j. 0 < j) (sym e) (c.1 (a.0, omega arith))))
+front-by [] more n at start r h = grind arith
 front-by (m ∷ ns) more n at start r h =
     let e = step-front at start m (entries_by m.start (ns ++ n ∷ more)) r.0 r.1 in
     let here : m.start ≤ at = omega (arith, rises m.start ns more n r.2) in
@@ -56,10 +48,7 @@ step-rear at start number n es back a b = ap (λ here. max (if is_after at start
 
 tail-by : (more : List Note) (at least start number c : ℕ) → c < number → at ≤ start → IsRising start more
     → (rear_of at start number (entries_by start more) (back_of (last_start start more) least) ≤ c ↔ AllBegin at more least)
-tail-by [] at least start number c l h r =
-    let p = passes (is_after at start (back_of start least)) number c l in
-    let b = after-is at start least h in
-    ((λ m. b.0 (p.0 m)), (λ m. p.1 (b.1 m)))
+tail-by [] at least start number c l h r = grind arith
 tail-by (n ∷ more) at least start number c l h r =
     let before = r.0 in
     let there = r.1 in
@@ -68,10 +57,8 @@ tail-by (n ∷ more) at least start number c l h r =
     let rest = rear_of at n.start (suc number) (entries_by n.start more) (back_of (last_start n.start more) least) in
     let p = passes (is_after at start (back_of start n.least)) number c l in
     let b = after-is at start n.least h in
-    let i = tail-by more at least n.start (suc number) c (omega (arith, l)) (omega (arith, h, before, there)) r.2 in (
-      (λ m. (let both : max w rest ≤ c = subst (λ j. j ≤ c) e m in (b.0 (p.0 (omega (arith, both))), i.0 (omega (arith, both))))),
-      (λ m. (let one = p.1 (b.1 m.0) in let two = i.1 m.1 in subst (λ j. j ≤ c) (sym e) (omega (arith, one, two)))),
-    )
+    let i = tail-by more at least n.start (suc number) c (omega (arith, l)) (omega (arith, h, before, there)) r.2 in
+    grind arith
 
 small : (b : Bool) (number c : ℕ) → number ≤ c → (if b then 0 else number) ≤ c
 small b number c h = grind arith
@@ -83,10 +70,8 @@ rear-by [] more n at least start number r h =
     let w = if is_after at start (back_of start n.least) then 0 else number in
     let rest = rear_of at n.start (suc number) (entries_by n.start more) (back_of (last_start n.start more) least) in
     let few = small (is_after at start (back_of start n.least)) number (number + 0) (omega arith) in
-    let i = tail-by more at least n.start (suc number) (number + 0) (omega arith) h r.2 in (
-      (λ m. (let both : max w rest ≤ number + 0 = subst (λ j. j ≤ number + 0) e m in i.0 (omega (arith, both)))),
-      (λ m. (let two = i.1 m in subst (λ j. j ≤ number + 0) (sym e) (omega (arith, few, two)))),
-    )
+    let i = tail-by more at least n.start (suc number) (number + 0) (omega arith) h r.2 in
+    grind arith
 rear-by (m ∷ ns) more n at least start number r h =
     let rest = ns ++ n ∷ more in
     let back = back_of (last_start m.start rest) least in
@@ -94,10 +79,8 @@ rear-by (m ∷ ns) more n at least start number r h =
     let w = if is_after at start (back_of start m.least) then 0 else number in
     let later = rear_of at m.start (suc number) (entries_by m.start rest) back in
     let few = small (is_after at start (back_of start m.least)) number (number + suc (length ns)) (omega arith) in
-    let i = rear-by ns more n at least m.start (suc number) r.2 h in (
-      (λ k. (let both : max w later ≤ number + suc (length ns) = subst (λ j. j ≤ number + suc (length ns)) e k in i.0 (omega (arith, both)))),
-      (λ k. (let two = i.1 k in subst (λ j. j ≤ number + suc (length ns)) (sym e) (omega (arith, few, two)))),
-    )
+    let i = rear-by ns more n at least m.start (suc number) r.2 h in
+    grind arith
 
 pub rear-law : RearLaw
 rear-law ns more n at least r h = let i = rear-by ns more n at least 0 0 r h in ((λ m. i.0 (omega (arith, m))), (λ m. let j = i.1 m in omega (arith, j)))

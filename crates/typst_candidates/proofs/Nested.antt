@@ -1,20 +1,9 @@
 -- What the entries of nested notes say without their levels: where the pieces of a run begin, and where a block ends.
-use Rattle.std.proofs.Common.{◌≡◌, ℕ, suc, ◌+◌, ◌<◌, ◌≤◌, ◌&&◌, if◌then◌else◌, List, [], ◌∷◌, ◌++◌, append_assoc, length, length-append, None, Some, refl, ap, sym, subst, ◌∙◌, arith}
-use Rattle.std.proofs.lemmas.Bool.Decides.{nat_tests}
-use Rattle.std.proofs.lemmas.List.{append-nil}
+use Rattle.typst_candidates.proofs.Cited.{◌≡◌, ℕ, suc, ◌+◌, ◌<◌, ◌≤◌, ◌&&◌, if◌then◌else◌, List, [], ◌∷◌, ◌++◌, append_assoc, length, length-append, None, Some, refl, ap, sym, subst, ◌∙◌, arith, nat_tests, append-nil, Note, SyntaxKind, Entry, EntryKind, run_in, entries_by, entry_of, last_start, entry_kind_of, IsRising, starts, up_to_end, after_first, top_cuts, cuts_in, same}
 use Rattle.typst_language.specs.declared.calls.Mark.TheVariants as mark
-use Rattle.typst_language.specs.declared.calls.Note.{Note}
-use Rattle.typst_kinds.specs.Kinds.{same}
-use Rattle.typst_kinds.specs.declared.kind.SyntaxKind.{SyntaxKind}
 use Rattle.typst_kinds.specs.declared.kind.SyntaxKind.TheVariants as kind
-use Rattle.typst_candidates.specs.declared.entry.Entry.{Entry}
-use Rattle.typst_candidates.specs.declared.entry.EntryKind.{EntryKind}
 use Rattle.typst_candidates.specs.Cursors.{inside_after, leads, pieces_of, pieces_in, piece_run, closing_of, token_at}
-use Rattle.typst_candidates.specs.Candidates.{run_in}
-use Rattle.typst_candidates.specs.Entries.{entries_by, entry_of, last_start, entry_kind_of}
 use Rattle.typst_candidates.specs.Nested.{Nested, none, piece, block, Written}
-use Rattle.typst_candidates.specs.Records.{IsRising}
-use Rattle.typst_candidates.specs.Units.{starts, up_to_end, after_first, top_cuts, cuts_in}
 
 -- ---- a note and its entry
 
@@ -28,9 +17,7 @@ after t inside start es = elim (inside_after t inside) as (λ _. List ℕ) [ Non
 
 pieces-here : (inside start : ℕ) (n : Note) (t : EntryKind) (es : List Entry) → start ≤ n.before → n.before ≤ n.start → entry_kind_of n.mark n.state ≡ t
     → pieces_of inside start (entry_of start n ∷ es) ≡ (if leads t inside then n.start ∷ after t inside n.start es else after t inside n.start es)
-pieces-here inside start n t es a b e =
-    ap (λ (u : EntryKind). if leads u inside then token_at start (entry_of start n) ∷ after u inside (token_at start (entry_of start n)) es else after u inside (token_at start (entry_of start n)) es) e
-    ∙ ap (λ (at : ℕ). if leads t inside then at ∷ after t inside at es else after t inside at es) (token-of start n a b)
+pieces-here inside start n t es a b e = grind arith
 
 -- ---- rising notes
 
@@ -102,8 +89,7 @@ found-pieces levels start ns ms (block l o c inner later b m n same less nest re
 -- and in a block they end where the block does
 pub found-in : (levels start : ℕ) (inner : List Note) (c : Note) (later : List Note) → Nested levels inner → c.mark ≡ mark.Closes → IsRising start (inner ++ c ∷ later)
     → pieces_of 0 start (made start (inner ++ c ∷ later)) ≡ starts levels inner
-found-in levels start inner c later nest m r =
-    let after_inner = rising-second start inner (c ∷ later) r in grind (arith, append-nil, found-pieces levels start inner (c ∷ later) nest r)
+found-in levels start inner c later nest m r = grind (arith, rising-second, append-nil, found-pieces)
 
 pub top-pieces : (ns : List Note) → Nested 256 ns → IsRising 0 ns → after_first (pieces_of 0 0 (entries_by 0 ns)) ≡ top_cuts ns
 top-pieces ns h r =

@@ -1,10 +1,5 @@
 -- A content block, by the first block that begins at its byte.
-use Rattle.std.proofs.Common.{◌≡◌, ℕ, suc, ◌+◌, ◌<◌, ◌==◌, ◌&&◌, Bool, true, false, List, [], ◌∷◌, length, take, drop, None, Some, refl, sym, ◌∙◌, arith}
-use Rattle.typst_candidates.specs.declared.entry.Entry.{Entry}
-use Rattle.typst_candidates.specs.declared.entry.EntryKind.{EntryKind}
-use Rattle.typst_candidates.specs.Cursors.{opens_content, pieces_in}
-use Rattle.typst_candidates.specs.Entries.{end_of}
-use Rattle.typst_candidates.specs.Records.{is_opening, opening_of}
+use Rattle.typst_candidates.proofs.Cited.{◌≡◌, ℕ, suc, ◌+◌, ◌<◌, ◌==◌, ◌&&◌, Bool, true, false, List, [], ◌∷◌, length, take, drop, None, Some, refl, sym, ◌∙◌, arith, Entry, EntryKind, opens_content, pieces_in, end_of, is_opening, opening_of}
 
 content-false : (t : EntryKind) (b : Bool) → (is_opening t && b) ≡ false → (opens_content t && b) ≡ false
 content-false t b h = grind arith

@@ -1,12 +1,5 @@
 -- Passes over all entries, from the first on or from the last.
-use Rattle.std.proofs.Common.{◌≡◌, ℕ, zero, suc, ◌+◌, ◌-◌, ◌≤◌, ◌<◌, ◌==◌, ◌&&◌, true, false, if◌then◌else◌, List, length, get_or, take, drop, Option, None, Some, refl, ap, sym, subst, ◌∙◌, arith}
-use Rattle.std.proofs.lemmas.Bool.Decides.{nat_tests}
-use Rattle.std.proofs.lemmas.Option.{get_or_from_slice_get, slice_get-get_or}
-use Rattle.std.specs.List.{slice_get}
-use Rattle.typst_candidates.specs.declared.entry.Entry.{Entry}
-use Rattle.typst_candidates.specs.Cursors.{EntryPlace, before, entry_before, last_of, start_at}
-use Rattle.typst_candidates.specs.Entries.{end_of, front_of, is_after, rear_of}
-use Rattle.typst_candidates.specs.Records.{is_opening, opening_of}
+use Rattle.typst_candidates.proofs.Cited.{◌≡◌, ℕ, zero, suc, ◌+◌, ◌-◌, ◌≤◌, ◌<◌, ◌==◌, ◌&&◌, true, false, if◌then◌else◌, List, length, get_or, take, drop, Option, None, Some, refl, ap, sym, ◌∙◌, arith, nat_tests, get_or_from_slice_get, slice_get-get_or, slice_get, Entry, EntryPlace, before, entry_before, last_of, start_at, end_of, front_of, is_after, rear_of, is_opening, opening_of}
 use Rattle.typst_candidates.proofs.Cursors.{cut}
 use Rattle.typst_candidates.proofs.Walks.{blank, stepped, stops}
 
@@ -39,15 +32,12 @@ rear-by : (es : List Entry) (at back n : ℕ) (e : Entry) → ◌≡◌ {A = Opt
 rear-by es at back zero e h le b = absurd (cc)
 rear-by es at back (suc m) e h le b =
     let one : suc m - 1 ≡ m = omega arith in
-    let s = stepped at (end_of 0 (take (suc m) es)) back (suc m) es e (omega arith) le refl b in
     let same : get_or es (suc m - 1) e ≡ e = ap (λ k. get_or es k e) one ∙ get_or_from_slice_get es m e e (sym h) in
-    record { entries = refl; within = omega arith; less = omega arith; counts = ap (λ (d : Entry). rear_of at 0 0 (take (suc m - 1) es) d.back) (sym same) ∙ s.counts }
+    grind (arith, stepped at (end_of 0 (take (suc m) es)) back (suc m) es e (omega arith) le refl b)
 
 pub rear-step : (es : List Entry) (at back : ℕ) (p now : EntryPlace) (e : Entry) → p.entries ≡ es → p.number ≤ length es → ◌≡◌ {A = Option Entry} (Some e) (entry_before p) → now ≡ before p → is_after at (start_at p) back ≡ true
     → Stepped-back es at back p now e
-rear-step es at back p now e a le h m b =
-    subst (λ (q : EntryPlace). Stepped-back es at back p q e) (sym m)
-    (subst (λ us. Stepped-back us at back p (before p) e) a (rear-by p.entries at back p.number e h (subst (λ us. p.number ≤ length us) (sym a) le) b))
+rear-step es at back p now e a le h m b = grind (arith, rear-by)
 
 -- before the first, no look is left
 rear-first : (es : List Entry) (at back n : ℕ) → last_of n es ≡ None → n ≤ length es → 0 ≡ rear_of at 0 0 (take n es) back

@@ -1,14 +1,5 @@
 -- Where the token of the last of some entries begins, by sums over words and over those beside them.
-use Rattle.std.proofs.Common.{◌≡◌, ℕ, suc, ◌+◌, ◌-◌, ◌*◌, ◌/◌, ◌%◌, ◌≤◌, ◌<◌, ◌^◌, List, [], ◌∷◌, ◌++◌, length, get_or, map, take, drop, Option, None, Some, ap, ◌∙◌, arith}
-use Rattle.std.proofs.Math.Seq.{take-add, take-suc}
-use Rattle.std.proofs.lemmas.List.{map-append, take-append-drop}
-use Rattle.std.proofs.lemmas.Nat.{mod_below, pow_pos}
-use Rattle.std.specs.List.{slice_get}
-use Rattle.typst_candidates.specs.declared.entry.Entry.{Entry}
-use Rattle.typst_candidates.specs.declared.entry.EntryKind.{EntryKind}
-use Rattle.typst_candidates.specs.declared.packed.Packed.{Packed}
-use Rattle.typst_candidates.specs.Entries.{end_of}
-use Rattle.typst_candidates.specs.Packed.{all_beside, all_spans, entry_by, entry_in, filled, lengths, span, spans, entry_kinds, unpacked, wides, widths}
+use Rattle.typst_candidates.proofs.Cited.{◌≡◌, ℕ, suc, ◌+◌, ◌-◌, ◌*◌, ◌/◌, ◌%◌, ◌≤◌, ◌<◌, ◌^◌, List, [], ◌∷◌, ◌++◌, length, get_or, map, take, drop, Option, None, Some, ap, ◌∙◌, arith, take-add, take-suc, map-append, take-append-drop, mod_below, pow_pos, slice_get, Entry, EntryKind, Packed, end_of, all_beside, all_spans, entry_by, entry_in, filled, lengths, span, spans, entry_kinds, unpacked, wides, widths}
 use Rattle.typst_candidates.proofs.Words.{halves, wides-append}
 
 -- entries that stand one after another, by the words' sum and that of those beside
@@ -20,8 +11,7 @@ filled-end (o ∷ os) ws start h = grind (arith, filled-end os)
 -- so after the first n of them
 pub start-sum : (ps : List Packed) (ws : List Entry) (n : ℕ) → n ≤ length ps → wides ps ≡ length ws
     → end_of 0 (take n (unpacked ps ws)) ≡ spans (take n ps) + lengths (take (wides (take n ps)) ws)
-start-sum ps ws n le h =
-    let a = halves ps ws n le h in omega (arith, ap (end_of 0) a.front, filled-end (map entry_in (take n ps)) (take (wides (take n ps)) ws) 0 a.first)
+start-sum ps ws n le h = grind (arith, halves, filled-end)
 
 -- ---- sums of the first
 
@@ -64,8 +54,7 @@ span-by o rest = span (elim o as (λ _. Option Entry) [ None ↦ None | Some t �
 
 span-kind : (o : Option EntryKind) (rest : ℕ) → span-by o rest < 2 ^ 9
 unfolding span-by
-span-kind None rest = omega arith
-span-kind (Some t) rest = short t rest
+span-kind o rest = grind arith
 
 pub spans-small : (ps : List Packed) → spans ps ≤ 2 ^ 9 * length ps
 unfolding span-by
@@ -83,7 +72,4 @@ pub between : (ps : List Packed) (ws : List Entry) (from to : ℕ) → from ≤ 
 between ps ws from to order within h =
     let k = to - from in
     let sum : to ≡ from + k = omega arith in
-    let wide : wides (take to ps) ≡ wides (take from ps) + wides (take k (drop from ps)) = ap (λ n. wides (take n ps)) sum ∙ wides-more ps from k in
-    let words : spans (take to ps) ≡ spans (take from ps) + spans (take k (drop from ps)) = ap (λ n. spans (take n ps)) sum ∙ spans-more ps from k in
-    let beside = ap (λ n. lengths (take n ws)) wide ∙ lengths-more ws (wides (take from ps)) (wides (take k (drop from ps))) in
-    record { wide = wide; bytes = omega (arith, start-sum ps ws from (omega arith) h, start-sum ps ws to within h, words, beside) }
+    grind (arith, wides-more, spans-more, lengths-more, start-sum)

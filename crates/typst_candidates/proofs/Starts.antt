@@ -1,19 +1,8 @@
 -- Where the pieces of a run begin within a window, and its first piece.
-use Rattle.std.proofs.Common.{◌≡◌, ℕ, suc, ◌+◌, ◌≤◌, ◌<◌, ◌&&◌, nat_le, Bool, true, false, if◌then◌else◌, List, [], ◌∷◌, ◌++◌, length, length-drop, take, drop, Option, None, Some, refl, ap, sym, ◌∙◌, arith}
-use Rattle.std.proofs.Math.Seq.{take-add}
-use Rattle.std.proofs.lemmas.Bool.Decides.{nat_tests}
+use Rattle.typst_candidates.proofs.Cited.{◌≡◌, ℕ, suc, ◌+◌, ◌≤◌, ◌<◌, ◌&&◌, nat_le, Bool, true, false, if◌then◌else◌, List, [], ◌∷◌, ◌++◌, length, length-drop, take, drop, Option, None, Some, refl, ap, sym, ◌∙◌, arith, take-add, nat_tests, slice_get, Window, Entry, EntryKind, inside_of, end_of, within, after_first, IsNonDecreasing}
 use Rattle.std.proofs.lemmas.List.{drop-drop, drop-take}
 use Rattle.std.proofs.lemmas.List.Kept.{IsNonDecreasingBy-filter}
-use Rattle.std.specs.List.{slice_get}
-use Rattle.std.specs.List.Sorted.{IsNonDecreasing}
-use Rattle.typst_candidates.specs.declared.cuts.Window.{Window}
-use Rattle.typst_candidates.specs.declared.entry.Entry.{Entry}
-use Rattle.typst_candidates.specs.declared.entry.EntryKind.{EntryKind}
-use Rattle.typst_candidates.specs.Anchors.{inside_of}
 use Rattle.typst_candidates.specs.Cursors.{EntryPlace, after, entry_after, first_piece, inside_after, leads, pieces_of, placed, start_at, token_at}
-use Rattle.typst_candidates.specs.Entries.{end_of}
-use Rattle.typst_candidates.specs.Edges.{within}
-use Rattle.typst_candidates.specs.Units.{after_first}
 use Rattle.typst_candidates.proofs.Walks.{end-over}
 use Rattle.typst_candidates.proofs.Bytes.{pieces-in-order}
 use Rattle.typst_candidates.proofs.Cursors.{cut, steps-on}
@@ -25,16 +14,10 @@ within-rises w inside start es = IsNonDecreasingBy-filter (λ x. x) (λ b. nat_l
 
 none-from : (w : Window) (inside start : ℕ) (es : List Entry) → w.to < start → within w (pieces_of inside start es) ≡ []
 none-from w inside start [] h = refl
-none-from w inside start (e ∷ es) h =
-    let out : nat_le (token_at start e) w.to ≡ false = grind (arith, nat_tests) in
-    let later = λ (m : ℕ). none-from w m (token_at start e) es (omega arith) in
-    grind (arith, later)
+none-from w inside start (e ∷ es) h = let later = λ (m : ℕ). none-from w m (token_at start e) es (omega arith) in grind (arith, later)
 
 none-after-window : (w : Window) (inside start : ℕ) (e : Entry) (es : List Entry) → w.to < token_at start e → within w (pieces_of inside start (e ∷ es)) ≡ []
-none-after-window w inside start e es h =
-    let out : nat_le (token_at start e) w.to ≡ false = grind (arith, nat_tests) in
-    let later = λ (m : ℕ). none-from w m (token_at start e) es h in
-    grind (arith, later)
+none-after-window w inside start e es h = grind (arith, nat_tests, none-from)
 
 -- the pieces in a window after a given number of entries, by the next entry
 pub within-on : (w : Window) (es : List Entry) (inside start n further : ℕ) (e : Entry) → slice_get es n ≡ Some e → inside_after e.kind inside ≡ Some further → token_at start e ≤ w.to
@@ -51,12 +34,10 @@ within-past w es inside start n e h far = grind (arith, cut, none-after-window)
 -- ---- the first piece of a run
 
 pub not-placed : (p : EntryPlace) (o : Option ℕ) → placed p o ≡ None → o ≡ None
-not-placed p None h = refl
-not-placed p (Some n) h = absurd (cc)
+not-placed p o h = grind arith
 
 pub placed-at : (p q : EntryPlace) (o : Option ℕ) → placed p o ≡ Some q → (n : ℕ) × (o ≡ Some n) × (q ≡ record p { number = n })
-placed-at p q None h = absurd (cc)
-placed-at p q (Some n) h = (n, refl, cc)
+placed-at p q o h = grind arith
 
 pub no-first : (inside start number : ℕ) (es : List Entry) → first_piece inside number es ≡ None → pieces_of inside start es ≡ []
 no-first inside start number [] h = refl
@@ -104,12 +85,7 @@ firsts es number n h =
     let front : take number es ++ take (suc k) (drop number es) ≡ take (n + 1) es = sym (take-add number (suc k) es) ∙ ap (λ m. take m es) all in
     let back : drop (suc k) (drop number es) ≡ drop (n + 1) es = drop-drop (suc k) number es ∙ ap (λ m. drop m es) (omega (arith, sum)) in
     let end_is : end_of (end_of 0 (take number es)) (take (suc k) (drop number es)) ≡ end_of 0 (take (n + 1) es) = sym (end-over 0 (take number es) (take (suc k) (drop number es))) ∙ ap (end_of 0) front in
-    record {
-      within = omega (arith, sum, length-drop number es, f.within);
-      rest = ap after_first f.pieces ∙ ap (λ s. Some (pieces_of 0 s (drop (suc k) (drop number es)))) end_is ∙ ap (λ us. Some (pieces_of 0 (end_of 0 (take (n + 1) es)) us)) back;
-      order = omega (arith, sum);
-      run = ap (λ m. inside_of 0 (drop number (take m es))) (sym all) ∙ ap (inside_of 0) (drop-take number (suc k) es) ∙ f.run;
-    }
+    grind (arith, length-drop, drop-take)
 
 -- the pieces after the first one of a run that begins after a place
 pub after-run : (p first now : EntryPlace) (o : Option Entry) → placed p (first_piece 0 p.number (drop p.number p.entries)) ≡ Some first → o ≡ entry_after first → now ≡ after o first
@@ -130,6 +106,4 @@ stands-in-run p first now o h e n =
     let at = placed-at p first (first_piece 0 p.number (drop p.number p.entries)) h in
     let f = firsts p.entries p.number at.0 at.1 in
     let is = steps-on p.entries at.0 first now o f.within at.2 e n in
-    let order = f.order in
-    let number = ap (λ (q : EntryPlace). q.number) is in
-    record { order = omega (arith, order, number); run = ap (λ (q : EntryPlace). inside_of 0 (drop p.number (take q.number q.entries))) is ∙ f.run }
+    grind arith

@@ -1,25 +1,10 @@
 -- On the way down to the replaced bytes and back.
-use Rattle.std.proofs.Common.{◌≡◌, ℕ, zero, suc, ◌+◌, ◌^◌, ◌<◌, ◌≤◌, Bool, true, false, List, [], ◌∷◌, ◌++◌, length, take, drop, get_or, refl, ap, sym, subst, ◌∙◌, arith, append_assoc, length-append, if◌then◌else◌, Option, Some, None}
+use Rattle.typst_candidates.proofs.Cited.{◌≡◌, ℕ, zero, suc, ◌+◌, ◌^◌, ◌<◌, ◌≤◌, Bool, true, false, List, [], ◌∷◌, ◌++◌, length, take, drop, get_or, refl, ap, sym, subst, ◌∙◌, arith, append_assoc, length-append, if◌then◌else◌, Option, Some, None, nat_tests, append-nil, length-take, take-append-le, take-take, get_or_from_slice_get, slice_get_past, slice_get_read, slice_get_within, take-append-add, SyntaxKind, Note, Tree, forest, trees, text_of, nodes, Entry, Candidate, laid, of_block, of_run, of_child_ranges, run_in, child_ranges, candidates_at, IsNear, LeadsBy, below, is_covered, pieces_at, covering, found_in, found_in_all, inside, kids, run_of, is_block, Near}
 use Rattle.std.specs.Prelude.{option_and_then, slice_get}
-use Rattle.std.proofs.lemmas.Bool.Decides.{nat_tests}
-use Rattle.std.proofs.lemmas.List.{append-nil, length-take, take-append-le, take-take}
-use Rattle.std.proofs.lemmas.Option.{get_or_from_slice_get, slice_get_past, slice_get_read, slice_get_within}
-use Rattle.std.proofs.Math.Seq.{take-append-add}
-use Rattle.typst_kinds.specs.Kinds.{is_block}
-use Rattle.typst_kinds.specs.declared.kind.SyntaxKind.{SyntaxKind}
-use Rattle.typst_language.specs.declared.calls.Note.{Note}
-use Rattle.typst_tree.specs.Tree.{Tree, forest, trees, text_of, count, nodes}
-use Rattle.typst_candidates.specs.declared.candidate.Candidate as found
 use Rattle.typst_candidates.specs.declared.enclosing.Enclosing.{Enclosing}
 use Rattle.typst_candidates.specs.declared.enclosing.Enclosing.TheVariants as enclosing
 use Rattle.typst_candidates.specs.declared.enclosing.RunAt.{RunAt}
 use Rattle.typst_candidates.specs.declared.enclosing.Stop.{Stop}
-use Rattle.typst_candidates.specs.declared.entry.Entry.{Entry}
-use Rattle.typst_candidates.specs.declared.children.Edge.{Edge}
-use Rattle.typst_candidates.specs.declared.children.Near.{Near}
-use Rattle.typst_candidates.specs.Candidates.{Candidate, laid, of_block, of_children, of_run, of_child_ranges, run_in, child_ranges, candidates_at}
-use Rattle.typst_candidates.specs.Edges.{IsEdge, IsNear, LeadsBy, below, is_covered, pieces_at, spelled}
-use Rattle.typst_candidates.specs.Stops.{block_of, covering, found_in, found_in_all, inside, kids, run_of}
 use Rattle.typst_candidates.proofs.Edges.{trees_forest}
 use Rattle.typst_candidates.proofs.Found.{below_else, below_none, child_fits, deeper, fewer, fits_of, forest_trees, node_is, path_front}
 
@@ -57,25 +42,12 @@ found-push es path (a ∷ around) e = ap (λ (cs : List Candidate). cs ++ found_
 -- a child at hand, if it is a block
 pub block-pushed : (es : List Entry) (path : List ℕ) (around later : List Enclosing) (s : Stop) (k : SyntaxKind) → s.near.end.index ≡ suc s.near.first.index → later ≡ around ++ enclosing.Block s ∷ [] → is_block k ≡ true
     → found_in_all es path later ≡ of_block (take s.depth path) (inside s) (kids s) s.near.first.index k ++ found_in_all es path around
-block-pushed es path around later s k next pushed block =
-    ap (found_in_all es path) pushed ∙ (found-push es path around (enclosing.Block s)
-    ∙ rw block (ap (λ (n : ℕ). of_children true (take s.depth path) (inside s) (kids s) s.near.first.index n ∷ found_in_all es path around) next))
-
-pub no-block : (path : List ℕ) (at : ℕ) (ts : List Tree) (i : ℕ) (k : SyntaxKind) (cs : List Candidate) → is_block k ≡ false → cs ≡ of_block path at ts i k ++ cs
-no-block path at ts i k cs none = rw none refl
+block-pushed es path around later s k next pushed block = grind (arith, found-push)
 
 -- ---- the children near the replaced bytes
 
-pub edge-moved : (a b : ℕ) (ts us : List Tree) (e : Edge) → a ≡ b → ts ≡ us → IsEdge a ts e → IsEdge b us e
-edge-moved a b ts us e at same is = subst (λ (vs : List Tree). IsEdge b vs e) same (subst (λ (n : ℕ). IsEdge n ts e) at is)
-
 pub near-moved : (a b : ℕ) (ts us : List Tree) (rs re : ℕ) (near : Near) → a ≡ b → ts ≡ us → IsNear a ts rs re near → IsNear b us rs re near
 near-moved a b ts us rs re near e f is = subst (λ (vs : List Tree). IsNear b vs rs re near) f (subst (λ (n : ℕ). IsNear n ts rs re near) e is)
-
--- as a block
-pub block-spelled : (path : List ℕ) (s : Stop) (c : found.Candidate) → c ≡ record { is_block = true; depth = s.depth; from = s.near.first.index; to = s.near.end.index; start = s.near.first.byte; end = s.near.end.byte } → spelled path c ≡ block_of path s
-block-spelled path s c is =
-    ap (spelled path) is ∙ (λ k. record { is_block = true; path = take s.depth path; from = s.near.first.index; to = s.near.end.index; start = s.first.byte k; end = s.end.byte k })
 
 -- ---- the child that covers the replaced bytes
 
@@ -111,13 +83,7 @@ covered-by : (rs re : ℕ) (s : Stop) (t : Tree) → covering rs re s ≡ Some t
 covered-by rs re s t e = grind arith
 
 pub covered : (rs re : ℕ) (s : Stop) (t : Tree) → covering rs re s ≡ Some t → Covered rs re s t
-covered rs re s t e =
-    let there = covered-at rs re s t e in
-    record {
-      within = slice_get_within (kids s) s.near.first.index t there;
-      is = sym (get_or_from_slice_get (kids s) s.near.first.index t t there);
-      covers = covered-by rs re s t e;
-    }
+covered rs re s t e = grind (arith, covered-at, slice_get_within, get_or_from_slice_get, covered-by)
 
 -- nothing below a stop without one
 pub none-below : (ns : List Note) (rs re : ℕ) (path : List ℕ) (s : Stop) → IsNear (inside s) (kids s) rs re s.near → covering rs re s ≡ None → below ns rs re path s.at s.node.now ≡ []
@@ -149,15 +115,11 @@ covered-fits rs re s t is =
 
 -- it has fewer nodes
 pub covered-fewer : (rs re : ℕ) (s : Stop) (t u : Tree) → Covered rs re s t → u ≡ t → nodes u < nodes s.node.now
-covered-fewer rs re s t u is e =
-    let same : nodes u ≡ nodes (get_or (kids s) s.near.first.index t) = ap nodes (e ∙ is.is) in
-    let all : count (forest (kids s)) ≡ count s.node.now.kids = ap count (forest_trees s.node.now.kids) in
-    omega (arith, fewer (kids s) s.near.first.index t is.within, same, all)
+covered-fewer rs re s t u is e = grind (arith, forest_trees, fewer)
 
 -- stretches of a run by the children near the replaced bytes
 run-is : (rs re : ℕ) (path final : List ℕ) (s : Stop) (run : Option (List ℕ)) → IsNear (inside s) (kids s) rs re s.near → take s.depth final ≡ path → run_of final s run ≡ of_run rs re path (inside s) (kids s) run
-run-is rs re path final s None near way = refl
-run-is rs re path final s (Some cuts) near way = λ k. of_child_ranges (way k) (inside s) (kids s) (child_ranges cuts (laid (inside s) (kids s)) (near.first k) (near.end k) (suc (length (kids s))) 1)
+run-is rs re path final s run near way = grind arith
 
 -- at a stop, those below it come before those of its own run
 pub stop-is : (ns : List Note) (rs re : ℕ) (path final : List ℕ) (s : Stop) (run : Option (List ℕ)) → IsNear (inside s) (kids s) rs re s.near → take s.depth final ≡ path
@@ -168,15 +130,11 @@ stop-is ns rs re path final s run near way = ap (λ (cs : List Candidate). below
 
 -- a longer path still begins with what the shorter one begins with
 pub front-longer : (p q r : List ℕ) (i : ℕ) → take (length p) q ≡ p → r ≡ q ++ i ∷ [] → take (length p) r ≡ p
-front-longer p q r i front e =
-    let less : length p ≤ length q = omega (arith, ap (λ (xs : List ℕ). length xs) front, length-take (length p) q) in
-    ap (take (length p)) e ∙ (take-append-le (length p) q (i ∷ []) less ∙ front)
+front-longer p q r i front e = grind (arith, length-take, take-append-le)
 
 -- a path that was made longer goes on as it did, whichever step comes next
 pub steps-on : (p q r : List ℕ) (first i j : ℕ) → take (length p) q ≡ p → r ≡ q ++ i ∷ [] → take (suc (length p)) (q ++ i ∷ []) ≡ p ++ first ∷ [] → take (suc (length p)) (r ++ j ∷ []) ≡ p ++ first ∷ []
-steps-on p q r first i j front e way =
-    let less : suc (length p) ≤ length r = omega (arith, ap (λ (xs : List ℕ). length xs) front, length-take (length p) q, ap (λ (xs : List ℕ). length xs) e, length-append q (i ∷ [])) in
-    take-append-le (suc (length p)) r (j ∷ []) less ∙ (ap (take (suc (length p))) e ∙ way)
+steps-on p q r first i j front e way = grind (arith, length-take, length-append, take-append-le)
 
 -- so it leads to the first child from there
 pub steps-lead : (first i : ℕ) (p q : List ℕ) → take (suc (length p)) (q ++ i ∷ []) ≡ p ++ first ∷ [] → LeadsBy first (drop (length p) q)
@@ -188,9 +146,7 @@ steps-lead first i (x ∷ p) (y ∷ q) way =
 
 -- those of what is around are added after those further in
 regroup : (inner run block outer deeper outermost all below : List Candidate) → below ≡ (inner ++ run) ++ block → deeper ≡ run ++ outermost → outermost ≡ block ++ outer → below ++ outer ≡ all → inner ++ deeper ≡ all
-regroup inner run block outer deeper outermost all below is last first e =
-    ap (λ (cs : List Candidate). inner ++ cs) (last ∙ ap (λ (cs : List Candidate). run ++ cs) first)
-    ∙ (sym (append_assoc inner run (block ++ outer)) ∙ (sym (append_assoc (inner ++ run) block outer) ∙ (ap (λ (cs : List Candidate). cs ++ outer) (sym is) ∙ e)))
+regroup inner run block outer deeper outermost all below is last first e = grind (arith, append_assoc)
 
 module _ (es : List Entry) (ns : List Note) (rs re : ℕ) (s u : Stop) (t : Tree) (path longer final : List ℕ) (run : Option RunAt)
     (near : IsNear (inside s) (kids s) rs re s.near) (next : IsNear (inside u) (kids u) rs re u.near) (is : Covered rs re s t) (node : u.node.now ≡ t) (at : u.at ≡ s.near.first.byte)
@@ -200,9 +156,7 @@ module _ (es : List Entry) (ns : List Note) (rs re : ℕ) (s u : Stop) (t : Tree
   shorter = path_front path longer final s.near.first.index way front
 
   at-child : candidates_at ns rs re longer (option_and_then (pieces_at es) run) 0 s.near.first.byte (forest (t ∷ [])) ≡ below ns rs re longer u.at u.node.now ++ run_of final u (option_and_then (pieces_at es) run)
-  at-child =
-      sym ((λ k. candidates_at ns rs re longer (option_and_then (pieces_at es) run) 0 (at k) (forest (node k ∷ []))))
-      ∙ sym (stop-is ns rs re longer final u (option_and_then (pieces_at es) run) next (ap (λ (n : ℕ). take n final) one ∙ front))
+  at-child = grind (arith, stop-is)
 
   pub down : (outer further deepest : List Candidate) (all : List Candidate) (block : List Candidate)
       → block ≡ of_block (take s.depth final) (inside s) (kids s) s.near.first.index t.head.kind → further ≡ block ++ outer → deepest ≡ run_of final u (option_and_then (pieces_at es) run) ++ further

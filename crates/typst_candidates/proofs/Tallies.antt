@@ -1,10 +1,8 @@
 -- What is kept of how many entries stand beside words.
-use Rattle.std.proofs.Common.{◌≡◌, ℕ, ◌≤◌, List, [], ◌∷◌, ◌++◌, length, take, ap, sym, ◌∙◌, arith}
+use Rattle.typst_candidates.proofs.Cited.{◌≡◌, ℕ, ◌≤◌, List, [], ◌∷◌, ◌++◌, length, take, ap, sym, ◌∙◌, arith, Packed, wides}
 use Rattle.std.proofs.lemmas.List.{length-append, take-append-le, take-take}
 use Rattle.typst_candidates.specs.declared.entries.Tally.{Tally}
-use Rattle.typst_candidates.specs.declared.packed.Packed.{Packed}
 use Rattle.typst_candidates.specs.Tallies.{IsTally}
-use Rattle.typst_candidates.specs.Packed.{wides}
 
 pub fewer : {A : Type 0} (i m : ℕ) (us : List A) → i ≤ m → take i us ≡ take i (take m us)
 fewer i m us h = sym (take-take i m us h)
@@ -15,5 +13,4 @@ tally-upto n ps qs m h le same long =
     record { within = omega (arith, le, long); passed = h.passed ∙ ap wides few }
 
 pub tally-append : (ps : List Packed) (p : Packed) (m : Tally) → IsTally ps m → IsTally (ps ++ p ∷ []) m
-tally-append ps p m h =
-    tally-upto (length ps) ps (ps ++ p ∷ []) m h h.within (take-append-le (length ps) ps (p ∷ []) (omega arith)) (omega (arith, length-append ps (p ∷ [])))
+tally-append ps p m h = grind (arith, tally-upto, take-append-le, length-append)

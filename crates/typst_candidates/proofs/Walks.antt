@@ -1,13 +1,6 @@
 -- Walks over entries, from the front and from the rear.
-use Rattle.std.proofs.Common.{◌≡◌, ℕ, zero, suc, ◌+◌, ◌-◌, ◌^◌, ◌≤◌, ◌<◌, ◌==◌, max, Bool, true, false, if◌then◌else◌, List, [], ◌∷◌, ◌++◌, length, get_or, take, drop, None, append_assoc, length-append, length-drop, drop-cons, length-take-le, refl, ap, sym, subst, ◌∙◌, arith}
-use Rattle.std.proofs.Math.Seq.{take-suc, take-append_seam, drop-append_seam}
-use Rattle.std.proofs.lemmas.Bool.Decides.{nat_tests}
-use Rattle.std.proofs.lemmas.List.{drop_at, take_at}
-use Rattle.typst_language.specs.declared.calls.Note.{Note}
-use Rattle.typst_candidates.specs.declared.entry.Entry.{Entry}
+use Rattle.typst_candidates.proofs.Cited.{◌≡◌, ℕ, zero, suc, ◌+◌, ◌-◌, ◌^◌, ◌≤◌, ◌<◌, ◌==◌, max, Bool, true, false, if◌then◌else◌, List, [], ◌∷◌, ◌++◌, length, get_or, take, drop, None, append_assoc, length-append, length-drop, drop-cons, length-take-le, refl, ap, sym, ◌∙◌, arith, take-suc, take-append_seam, drop-append_seam, nat_tests, drop_at, take_at, Note, Entry, end_of, entry_of, entries_by, last_start, is_after, rear_of, AllFit, opening_of}
 use Rattle.typst_candidates.specs.declared.entry.EntryKind.TheVariants as entry_kind
-use Rattle.typst_candidates.specs.Entries.{end_of, entry_of, entries_by, last_start, is_after, rear_of}
-use Rattle.typst_candidates.specs.Records.{AllFit, opening_of}
 
 -- ---- from the rear
 
@@ -61,18 +54,12 @@ stepped-by : (at start back n : ℕ) (es : List Entry) (d : Entry) → n < lengt
 stepped-by at start back n es d lt s b =
     let e = get_or es n d in
     let cut = take-suc es n d lt in
-    let ends : start ≡ end_of 0 (take n es ++ e ∷ []) = s ∙ ap (end_of 0) cut in
-    let end : start ≡ (end_of 0 (take n es) + e.step) + e.gap = ends ∙ end-append 0 (take n es) e in
-    (omega arith, omega arith, grind (arith, ap (λ us. rear_of at 0 0 us back) cut, rear-append at 0 0 (take n es) e back))
+    grind (arith, end-append, rear-append)
 
 pub stepped : (at start back number : ℕ) (es : List Entry) (d : Entry) → 0 < number → number ≤ length es → start ≡ end_of 0 (take number es) → is_after at start back ≡ true
     → Stepped at start back number es (get_or es (number - 1) d)
 stepped at start back zero es d some le s b = absurd (omega (arith, some))
-stepped at start back (suc n) es d some le s b =
-    let one : suc n - 1 ≡ n = omega arith in
-    let i = stepped-by at start back n es d (omega (arith, le)) s b in
-    subst (λ m. Stepped at start back (suc n) es (get_or es m d)) (sym one)
-    (record { fits = i.0; there = i.1 ∙ ap (λ m. end_of 0 (take m es)) (sym one); counts = ap (λ m. rear_of at 0 0 (take m es) (get_or es n d).back) one ∙ i.2 })
+stepped at start back (suc n) es d some le s b = let one : suc n - 1 ≡ n = omega arith in grind (arith, stepped-by at start back n es d (omega (arith, le)) s b)
 
 pub blank : Entry
 blank = record { kind = entry_kind.Piece false; step = 0; gap = 0; forth = 0; back = 0; count = 0 }
@@ -84,9 +71,7 @@ stops at start back zero es some le s b = absurd (omega (arith, some))
 stops at start back (suc n) es some le s b =
     let e = get_or es n blank in
     let cut = take-suc es n blank le in
-    let ends : start ≡ end_of 0 (take n es ++ e ∷ []) = s ∙ ap (end_of 0) cut in
-    let long : length (take n es) ≡ n = length-take-le n es (omega arith) in
-    grind (arith, ap (λ us. rear_of at 0 0 us back) cut, rear-append at 0 0 (take n es) e back, rear-most at 0 0 (take n es) e.back)
+    grind (arith, length-take-le, rear-append, rear-most)
 
 -- ---- one note more
 

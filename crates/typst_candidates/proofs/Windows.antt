@@ -1,15 +1,6 @@
 -- A stretch of a run that lies in a window is the same by the pieces that begin there alone.
-use Rattle.std.proofs.Common.{◌≡◌, ℕ, zero, suc, ◌+◌, ◌-◌, ◌≤◌, Bool, true, false, max, min, List, [], ◌∷◌, ◌++◌, length, take, refl, ap, sym, ◌∙◌, arith, nat_lt, nat_le}
-use Rattle.std.specs.Prelude.{◌||◌, ◌&&◌, not}
-use Rattle.std.proofs.lemmas.Bool.{leb-true}
-use Rattle.std.proofs.lemmas.Bool.Decides.{nat_tests}
-use Rattle.std.proofs.lemmas.Bool.{and_parts}
-use Rattle.std.proofs.Math.Seq.{take-append-add, take-append_seam}
-use Rattle.typst_tree.specs.Tree.{Tree, text_of}
-use Rattle.typst_candidates.specs.declared.cuts.Window.{Window}
+use Rattle.typst_candidates.proofs.Cited.{◌≡◌, ℕ, zero, suc, ◌+◌, ◌-◌, ◌≤◌, Bool, true, max, min, List, [], ◌∷◌, ◌++◌, length, take, refl, ap, sym, ◌∙◌, arith, nat_lt, nat_le, leb-true, nat_tests, and_parts, take-append-add, take-append_seam, Tree, text_of, Window, Child, ChildRange, laid, begun, ended, first_near, end_near, clings, is_among, leads, holds_at, back_past, on_past, begins, with_hash, from_of, to_of, around, IsEdge, indices, within, ◌||◌, ◌&&◌, not}
 use Rattle.typst_candidates.specs.declared.children.ChildRange as children
-use Rattle.typst_candidates.specs.Candidates.{Child, ChildRange, laid, begun, ended, first_near, end_near, clings, is_among, leads, holds_at, back_past, on_past, begins, with_hash, from_of, to_of, around}
-use Rattle.typst_candidates.specs.Edges.{IsEdge, indices, within}
 use Rattle.typst_candidates.proofs.Edges.{laid_length, begins_order, begun_none}
 
 -- ---- the bytes of a window
@@ -37,12 +28,7 @@ back_same f g zero same = refl
 back_same f g (suc n) same = pick (back_same f g n) (f (suc n)) refl
   where
     pick : (((k : ℕ) → back_past f n ≤ k → k ≤ n → f k ≡ g k) → back_past f n ≡ back_past g n) → (b : Bool) → f (suc n) ≡ b → back_past f (suc n) ≡ back_past g (suc n)
-    pick less true e =
-        let there : g (suc n) ≡ true = sym (same (suc n) (back_most f (suc n)) (omega arith)) ∙ e in
-        rw (e, there) (less (λ k low high. same k (rw e low) (omega arith)))
-    pick less false e =
-        let there : g (suc n) ≡ false = sym (same (suc n) (back_most f (suc n)) (omega arith)) ∙ e in
-        rw (e, there)
+    pick less b e = grind (arith, back_most)
 
 on_least : (f : ℕ → Bool) (limit n : ℕ) → n ≤ on_past f limit n
 on_least f zero n = omega arith
@@ -53,12 +39,7 @@ on_same f g zero n same = refl
 on_same f g (suc limit) n same = pick (on_same f g limit (suc n)) (f n) refl
   where
     pick : (((k : ℕ) → suc n ≤ k → k ≤ on_past f limit (suc n) → f k ≡ g k) → on_past f limit (suc n) ≡ on_past g limit (suc n)) → (b : Bool) → f n ≡ b → on_past f (suc limit) n ≡ on_past g (suc limit) n
-    pick next true e =
-        let there : g n ≡ true = sym (same n (omega arith) (on_least f (suc limit) n)) ∙ e in
-        rw (e, there) (next (λ k low high. same k (omega arith) (rw e high)))
-    pick next false e =
-        let there : g n ≡ false = sym (same n (omega arith) (on_least f (suc limit) n)) ∙ e in
-        rw (e, there)
+    pick next b e = grind (arith, on_least)
 
 -- ---- a stretch in a window
 
@@ -78,8 +59,7 @@ module _ (w : Window) (bs : List ℕ) (at : ℕ) (ts : List Tree) (i j x : ℕ) 
 
   middle : left ≤ right
   unfolding left right
-  middle =
-      omega (arith, hash_most (laid at ts) (back_past (holds_at (λ c. clings c.node) (laid at ts)) (i - max x 2)), back_most (holds_at (λ c. clings c.node) (laid at ts)) (i - max x 2), order, last, laid_length at ts)
+  middle = grind (arith, hash_most, back_most, laid_length)
 
   first : from_of (within w bs) (laid at ts) i x ≤ left
   unfolding left
@@ -91,10 +71,7 @@ module _ (w : Window) (bs : List ℕ) (at : ℕ) (ts : List Tree) (i j x : ℕ) 
 
   -- the pieces that begin in the window say the same of each child of the stretch, and of the one after it
   leads_here : (k : ℕ) → from_of (within w bs) (laid at ts) i x ≤ k → k ≤ to_of (within w bs) (laid at ts) j x → (c : Child) → c.start ≡ begins at ts k → leads (within w bs) c ≡ leads bs c
-  leads_here k least most c e =
-      leads_within w bs c
-      (omega (arith, e, low, begins_order at ts (from_of (within w bs) (laid at ts) i x) k least))
-      (omega (arith, e, high, begins_order at ts k (to_of (within w bs) (laid at ts) j x) most))
+  leads_here k least most c e = grind (arith, leads_within, begins_order)
 
   from_same : from_of (within w bs) (laid at ts) i x ≡ from_of bs (laid at ts) i x
   unfolding left

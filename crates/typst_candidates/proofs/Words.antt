@@ -1,15 +1,6 @@
 -- Entries in words: one word, and the words of a list with those beside it.
-use Rattle.std.proofs.Common.{◌≡◌, ℕ, zero, suc, ◌+◌, ◌*◌, ◌/◌, ◌%◌, ◌^◌, ◌≤◌, ◌<◌, true, List, [], ◌∷◌, ◌++◌, length, get_or, map, take, drop, Option, None, Some, length-append, length-drop, length-take-le, refl, ap, sym, ◌∙◌, arith}
-use Rattle.std.proofs.Math.Seq.{take-suc}
-use Rattle.std.proofs.lemmas.List.{append-nil, drop_at, get_or-map, length-map, length-take, map-append, take-append-drop, take-map, take_at}
-use Rattle.std.proofs.lemmas.Nat.{mod_low, shr_high}
-use Rattle.std.specs.List.{slice_get}
-use Rattle.typst_candidates.specs.declared.entry.Entry.{Entry}
-use Rattle.typst_candidates.specs.declared.entry.EntryKind.{EntryKind}
-use Rattle.typst_candidates.specs.declared.packed.Packed.{Packed}
+use Rattle.typst_candidates.proofs.Cited.{◌≡◌, ℕ, zero, suc, ◌+◌, ◌*◌, ◌^◌, ◌≤◌, ◌<◌, true, List, [], ◌∷◌, ◌++◌, length, get_or, map, take, drop, Option, None, Some, length-append, length-drop, length-take-le, refl, ap, sym, ◌∙◌, arith, take-suc, append-nil, drop_at, get_or-map, length-map, length-take, map-append, take-append-drop, take-map, take_at, mod_low, shr_high, slice_get, Entry, EntryKind, Packed, entry_kinds, widths, entry_by, entry_in, beside, all_beside, filled, holds_piece, wides, unpacked, is_piece}
 use Rattle.typst_candidates.specs.declared.packed.Widths.{Widths}
-use Rattle.typst_candidates.specs.Packed.{entry_kinds, widths, entry_by, entry_in, beside, all_beside, filled, holds_piece, wides, unpacked}
-use Rattle.typst_candidates.specs.Cursors.{is_piece}
 
 -- ---- filled by those beside
 
@@ -80,10 +71,7 @@ by_kind o rest = elim o as (λ _. Option Entry) [ None ↦ None | Some t ↦ Som
 
 pub tagged : (e : Entry) (number rest word : ℕ) → slice_get entry_kinds number ≡ Some e.kind → number < 2 ^ 4 → word ≡ rest * 2 ^ 4 + number → entry_by e.kind (widths e.kind) rest ≡ e
     → entry_in (record { word = word }) ≡ Some e
-tagged e number rest word t n w h =
-    let low : word % 2 ^ 4 ≡ number = ap (λ m. m % 2 ^ 4) w ∙ mod_low rest 4 number n in
-    let high : word / 2 ^ 4 ≡ rest = ap (λ m. m / 2 ^ 4) w ∙ shr_high rest 4 number n in
-    ap (λ m. by_kind (slice_get entry_kinds m) (word / 2 ^ 4)) low ∙ ap (λ o. by_kind o (word / 2 ^ 4)) t ∙ ap (by_kind (Some e.kind)) high ∙ ap (λ d. Some d) h
+tagged e number rest word t n w h = grind arith
 
 -- ---- one word more
 
@@ -106,10 +94,7 @@ push-wide-kept ps w ws e h none = omega (arith, wides-append ps (w ∷ []), ap b
 -- the words of a part in place of others, and those beside in place of the others' own
 pub put-entries : (ps qs : List Packed) (ws vs : List Entry) (from to : ℕ) → from ≤ to → to ≤ length ps → wides ps ≡ length ws → wides qs ≡ length vs
     → unpacked (take from ps ++ (qs ++ drop to ps)) (take (wides (take from ps)) ws ++ (vs ++ drop (wides (take to ps)) ws)) ≡ take from (unpacked ps ws) ++ (unpacked qs vs ++ drop to (unpacked ps ws))
-put-entries ps qs ws vs from to order within h g =
-    let a = halves ps ws from (omega arith) h in
-    let b = halves ps ws to within h in
-    rw (unpacked-append (take from ps) (qs ++ drop to ps) (take (wides (take from ps)) ws) (vs ++ drop (wides (take to ps)) ws) a.first, unpacked-append qs (drop to ps) vs (drop (wides (take to ps)) ws) g, a.front, b.back)
+put-entries ps qs ws vs from to order within h g = grind (arith, halves ps ws from (omega arith) h, halves ps ws to within h, unpacked-append)
 
 pub put-kept : (ps qs : List Packed) (ws vs : List Entry) (from to : ℕ) → from ≤ to → to ≤ length ps → wides ps ≡ length ws → wides qs ≡ length vs
     → wides (take from ps ++ (qs ++ drop to ps)) ≡ length (take (wides (take from ps)) ws ++ (vs ++ drop (wides (take to ps)) ws))
@@ -137,11 +122,8 @@ filled-at (None ∷ os) (w ∷ ws) (suc n) d h b =
 
 -- it is the one that its word holds, or the next of those beside
 pub found-at : (ps : List Packed) (ws : List Entry) (n : ℕ) (d : Packed) → n < length ps → wides ps ≤ length ws → slice_get (unpacked ps ws) n ≡ at-word (entry_in (get_or ps n d)) (slice_get ws (wides (take n ps)))
-found-at ps ws n d h b =
-    let all = filled-at (map entry_in ps) ws n (entry_in d) (omega (arith, length-map ps entry_in)) b in
-    simp (take-map, get_or-map entry_in ps n d (entry_in d) h) at all
+found-at ps ws n d h b = grind (arith, filled-at (map entry_in ps) ws n (entry_in d) (omega (arith, length-map ps entry_in)) b, take-map, get_or-map)
 
 -- a word by which a piece begins holds an entry
 pub piece-held : (o : Option Entry) → holds_piece o ≡ true → (e : Entry) × (o ≡ Some e) × (is_piece e.kind ≡ true)
-piece-held None t = absurd (cc)
-piece-held (Some e) t = (e, refl, t)
+piece-held o t = grind arith

@@ -1,11 +1,6 @@
 -- What the code reads by what a token begins.
-use Rattle.std.proofs.Common.{◌≡◌, Bool, Option, sym, subst}
-use Rattle.typst_language.specs.Meaning.{Level}
-use Rattle.typst_language.specs.Shape.{Shape}
-use Rattle.typst_language.specs.View.{View, Does}
+use Rattle.typst_code.proofs.Cited.{◌≡◌, Bool, Option, sym, subst, Level, Shape, View, Does, code_by, tail_by, CodeTail}
 use Rattle.typst_code.specs.declared.heads.CodeHead.{CodeHead}
-use Rattle.typst_code.specs.declared.heads.CodeTail.{CodeTail}
-use Rattle.typst_code.specs.Expressions.{code_by, tail_by}
 
 pub at-head : {l : Level} (atomic : Bool) (h i : CodeHead) {old new : View} → h ≡ i → Does l (code_by atomic i) tt old new → Does l (code_by atomic h) tt old new
 at-head {l = l} atomic h i {old = old} {new = new} e d = subst (λ (x : CodeHead). Does l (code_by atomic x) tt old new) (sym e) d

@@ -1,16 +1,8 @@
 -- First readings, which leave what stood before them.
-use Rattle.std.proofs.Common.{◌≡◌, false, refl}
+use Rattle.typst_code.proofs.Cited.{◌≡◌, false, refl, at_newline, Level, entered, run, View, Fits, group, as_group, is_end, node, within, Begins, begins-gives, begins-peek, begins-scoped, begins-then, begins-wraps}
 use Rattle.typst_language.specs.declared.reading.AtNewline.TheVariants as newline
-use Rattle.typst_language.specs.Depth.{is_end}
-use Rattle.typst_markup.specs.Markup.{at_newline}
-use Rattle.typst_language.specs.Meaning.{Level, entered, run}
 use Rattle.typst_language.specs.Sound.{Sound}
-use Rattle.typst_language.specs.Steps.{node, within}
-use Rattle.typst_language.specs.View.{View, Fits}
-use Rattle.typst_language.proofs.Begins.{Begins, begins-gives, begins-peek, begins-scoped, begins-then, begins-wraps}
 use Rattle.typst_bindings.proofs.PatternFirsts.{begins-some}
-use Rattle.typst_code.specs.Groups.{group}
-use Rattle.typst_code.specs.Parens.{as_group}
 
 fits-in-parens : {l : Level} {v : View} → Fits l v → Fits l (record v { state = entered (at_newline newline.Continue v.state.reading) v.state })
 fits-in-parens c = record { known = c.known; hand = c.hand; own = c.own; here = c.here; there = c.there; log = c.log; knows = c.knows }

@@ -1,33 +1,22 @@
 -- What comes after parens, by where they go on after the first one.
-use Rattle.std.proofs.Common.{◌≡◌, ◌+◌, ◌-◌, ◌^◌, ◌≤◌, Bool, true, List, [], ◌++◌, refl, ap, sym, ◌∙◌, subst}
+use Rattle.typst_code.proofs.Cited.{◌≡◌, ◌+◌, ◌-◌, ◌^◌, ◌≤◌, Bool, true, List, [], ◌++◌, refl, ap, sym, ◌∙◌, subst, at_newline, Guess, Level, Outcome, asked, before, entered, hand_asks_of, hand_of, inside, left, run, start_point, after_shape, View, Fits, Found, place_after_paren, guess_at, looked_too, Back, goes-nowhere, here-looks, paren-looks, group, group_rest, group_shape, after_paren, as_group, after_group, guess_of, Hand, eat, eat_making, node, within, Parser, ◌>>◌, gives, next, wraps}
 use Rattle.typst_kinds.specs.declared.kind.SyntaxKind.{SyntaxKind}
 use Rattle.typst_lines.specs.Place.{Place, moved}
 use Rattle.typst_language.specs.hull.Hull.{Hull}
 use Rattle.typst_language.specs.declared.calls.AfterName.{AfterName}
 use Rattle.typst_language.specs.declared.reading.AtNewline.TheVariants as newline
 use Rattle.typst_language.specs.declared.reading.Reading.{Reading}
-use Rattle.typst_language.specs.Hand.{Hand}
-use Rattle.typst_markup.specs.Markup.{at_newline}
-use Rattle.typst_language.specs.Meaning.{Guess, Level, Outcome, asked, before, entered, hand_asks_of, hand_of, inside, left, run, start_point}
 use Rattle.typst_language.specs.Nodes.{is_leaf}
 use Rattle.typst_language.specs.Ask.{only_looks}
 use Rattle.typst_language.specs.Log.{logged}
 use Rattle.typst_language.specs.Noted.{hull_in}
 use Rattle.typst_language.specs.Point.{Point}
 use Rattle.typst_language.specs.Remembered.{Comes, LooksIn}
-use Rattle.typst_language.specs.Shape.{after_shape}
-use Rattle.typst_language.specs.Steps.{eat, eat_making, node, within}
-use Rattle.typst_language.specs.Syntax.{Parser, ◌>>◌}
-use Rattle.typst_language.specs.Syntax.Parser.{gives, next, wraps}
 use Rattle.typst_language.specs.Syntax.Begin.{at_token}
-use Rattle.typst_language.specs.View.{View, Fits, Found, place_after_paren, guess_at, looked_too}
 use Rattle.typst_language.specs.View.{begun as guess_begun}
 use Rattle.typst_language.proofs.Runs.{asked-same, shape-held, shape-known}
-use Rattle.typst_language.proofs.Either.{Back, goes-nowhere, here-looks, paren-looks}
 use Rattle.typst_language.proofs.Knowing.{looks-in, looks-more, looks-within, same-looks}
 use Rattle.typst_language.proofs.Tails.{AllIn, Is, hulls, hulls-looks, in-both, in-first, in-second, is-gives, is-next, is-peek, is-scoped, is-self, is-takes, is-wraps, looks-hulls}
-use Rattle.typst_code.specs.Groups.{group, group_rest, group_shape}
-use Rattle.typst_code.specs.Parens.{after_paren, as_group, after_group, guess_of}
 
 -- ---- after the first paren
 

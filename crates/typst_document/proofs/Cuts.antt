@@ -1,15 +1,10 @@
 -- Texts that are cut out of others.
-use Rattle.std.proofs.Common.{◌≡◌, ℕ, ◌+◌, ◌-◌, ◌≤◌, List, [], ◌∷◌, ◌++◌, length, take, drop, get_or, Option, None, Some, refl, ap, sym, subst, ◌∙◌, arith, append_assoc}
+use Rattle.typst_document.proofs.Cited.{◌≡◌, ℕ, ◌+◌, ◌-◌, ◌≤◌, List, [], ◌∷◌, ◌++◌, length, take, drop, get_or, Option, refl, ap, sym, subst, ◌∙◌, arith, append_assoc, slice_range, IsCharBoundary, IsUtf8, chars, Range, IsCharBoundary-from_drop, IsCharBoundary-start, IsUtf8-drop, IsUtf8-past_char, encodes-chars, IsTextAt}
 use Rattle.std.specs.Borrow.{Bor}
-use Rattle.std.specs.Prelude.{slice_range}
 use Rattle.std.specs.Option.{unwrap_or}
-use Rattle.std.specs.Str.{IsCharBoundary, IsUtf8, chars}
 use Rattle.std.specs.Str.Pattern.{GetsRange}
-use Rattle.std.specs.declared.ops.Range.{Range}
 use Rattle.std.proofs.Math.Utf8.{encode, encodes}
 use Rattle.std.proofs.lemmas.List.{drop-drop, get_or-drop, take-append-drop}
-use Rattle.std.proofs.lemmas.Str.{IsCharBoundary-from_drop, IsCharBoundary-start, IsUtf8-drop, IsUtf8-past_char, encodes-chars}
-use Rattle.typst_document.specs.Document.{IsTextAt}
 
 -- what follows characters is text again
 past_chars : (cs bs rest : List ℕ) → IsUtf8 bs → bs ≡ encodes cs ++ rest → IsUtf8 rest
@@ -41,12 +36,4 @@ between_chars s (x ∷ xs) i j us ux is ends within out =
 -- what `get` finds, and nothing where it finds nothing
 pub text_found : (s : List ℕ) (bytes : Range ℕ) (found : Option (Bor (List ℕ))) (nothing result : Bor (List ℕ)) → IsUtf8 s → IsUtf8 result.now → GetsRange s bytes.start bytes.end found → nothing.now ≡ []
     → result ≡ unwrap_or found nothing → IsTextAt s bytes result.now
-text_found s bytes None nothing result us ur h empty is =
-    record { within = λ ordered start end. absurd (h ordered start end); none = λ _. ap (λ r. r.now) is ∙ empty }
-text_found s bytes (Some x) nothing result us ur h empty is =
-    let part : result.now ≡ slice_range s bytes.start bytes.end = ap (λ r. r.now) is ∙ h.0 in
-    let ends : length result.now + bytes.start ≡ bytes.end = ap (λ r. length r.now + bytes.start) is ∙ h.1 in
-    record {
-      within = λ _ _ _. part;
-      none = λ out. between_chars s result.now bytes.start bytes.end us ur part ends h.2 (out (omega (arith, ends)));
-    }
+text_found s bytes found nothing result us ur h empty is = grind (arith, between_chars)

@@ -4,6 +4,7 @@
 --   edited: clause read                         ReadAgain: read_again
 --   replaced: what is kept, clause headline     Records: records-kept, of-ok
 --   width_of, width_between, place_from         Walking: wide-more, wide-text: one character more; way; there-behind, there-before
+pub mod Cited
 mod Cuts
 mod Edits
 mod ReadAgain

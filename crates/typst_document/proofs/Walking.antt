@@ -1,30 +1,18 @@
 -- The way between two bytes of a line.
-use Rattle.std.proofs.Common.{◌≡◌, ℕ, ◌+◌, ◌-◌, ◌^◌, ◌<◌, ◌≤◌, inl, inr, cond, min, nat_le, not, List, [], ◌∷◌, ◌++◌, length, take, drop, get_or, slice_get, Some, count_by, refl, sym, ap, subst, ◌∙◌, arith, append-nil, get_or-drop, get_or-take, length-drop, length-take-le, take-append-drop, take-add}
+use Rattle.typst_document.proofs.Cited.{◌≡◌, ℕ, ◌+◌, ◌-◌, ◌^◌, ◌<◌, ◌≤◌, inl, inr, cond, min, nat_le, not, List, [], ◌∷◌, ◌++◌, length, take, drop, get_or, slice_get, Some, count_by, refl, sym, ap, subst, ◌∙◌, arith, append-nil, get_or-drop, get_or-take, length-drop, length-take-le, take-append-drop, take-add, at_drop_more, drop-drop, take-take, IsUtf8-take, chars-append, chars-nil, len_utf8_bounds, slice_range, IsCharBoundary, IsUtf8, chars, IsInsideEnd, byte_in, line_of, position_of, is_line_end, line_at, line_starts, starts_between, held, place-back, position, position-is, start-boundary, utf8-line, IsOneLine, IsWay, wide}
 use Rattle.std.proofs.lemmas.Bool.{cases_lt, le-leb, lt-leb}
-use Rattle.std.proofs.lemmas.List.{at_drop_more, drop-drop, take-take}
 use Rattle.std.proofs.lemmas.List.Folds.{length-prefix_len}
-use Rattle.std.proofs.lemmas.Str.{IsUtf8-take, chars-append, chars-nil, len_utf8_bounds}
 use Rattle.std.specs.Char.{len_utf8}
 use Rattle.std.specs.List.{prefix_len}
-use Rattle.std.specs.Prelude.{slice_range}
-use Rattle.std.specs.Str.{IsCharBoundary, IsUtf8, chars}
 use Rattle.typst_positions.specs.Columns.{bytes_before, column_of, measured, width}
-use Rattle.typst_positions.specs.Positions.{IsInsideEnd, byte_in, line_of, position_of}
-use Rattle.typst_positions.specs.Starts.{is_line_end, line_at, line_starts, starts_between}
 use Rattle.typst_positions.specs.declared.columns.Encoding.{Encoding}
 use Rattle.typst_positions.specs.declared.columns.Encoding.TheVariants.{Utf8}
 use Rattle.typst_positions.specs.declared.positions.Position.{Position}
 use Rattle.typst_positions.proofs.Holding.{count-between}
-use Rattle.typst_positions.proofs.Places.{held, place-back, position, position-is, start-boundary, utf8-line}
 use Rattle.typst_positions.proofs.Tables.{between-split, none-left}
 use Rattle.typst_positions.proofs.Widths.{before-boundary, total, total-text, width-le}
-use Rattle.typst_document.specs.Places.{IsOneLine, IsWay, wide}
 
 -- ---- how wide a front of a line is
-
-pub wide-total : (e : Encoding) (cs : List ℕ) → wide e cs ≡ total (width e) cs
-wide-total e [] = refl
-wide-total e (c ∷ cs) = ap (λ n. width e c + n) (wide-total e cs)
 
 pub wide-append : (e : Encoding) (cs ds : List ℕ) → wide e (cs ++ ds) ≡ wide e cs + wide e ds
 wide-append e [] ds = omega arith
@@ -49,9 +37,7 @@ column-front e line n u b =
     let first : IsUtf8 (take n line) = IsUtf8-take line n u b in
     let parts : chars line ≡ chars (take n line) ++ chars (drop n line) = ap chars (sym (take-append-drop n line)) ∙ chars-append (take n line) (drop n line) first in
     let size : total len_utf8 (chars (take n line)) ≡ n = total-text (take n line) first ∙ length-take-le n line b.0 in
-    ap (measured (width e) len_utf8 n) parts
-    ∙ ap (λ m. measured (width e) len_utf8 m (chars (take n line) ++ chars (drop n line))) (sym size)
-    ∙ measured-front e (chars (take n line)) (chars (drop n line))
+    grind (arith, measured-front)
 
 -- ---- the line of a byte
 
@@ -95,14 +81,7 @@ front-more text start from to low le within =
     let j : ℕ = from - start in
     let d : ℕ = to - from in
     let sum : to - start ≡ j + d = omega (arith, low, le) in
-    let here : start + j ≡ from = omega (arith, low) in
-    let all : take (to - start) (line_at text start) ≡ take (to - start) rest = prefix-take text start (to - start) within in
-    let first : take j (line_at text start) ≡ take j rest = prefix-take text start j (omega (arith, within, sum)) in
-    all
-    ∙ ap (λ k. take k rest) sum
-    ∙ take-add j d rest
-    ∙ ap (λ l. l ++ take d (drop j rest)) (sym first)
-    ∙ ap (λ l. take j (line_at text start) ++ take d l) (drop-drop j start text ∙ ap (λ k. drop k text) here)
+    grind (arith, prefix-take, take-add, drop-drop)
 
 column-more : (e : Encoding) (text : List ℕ) (start from to : ℕ) → start ≤ from → from ≤ to → IsUtf8 (line_at text start) → IsCharBoundary (line_at text start) (from - start) → IsCharBoundary (line_at text start) (to - start)
     → column_of e (line_at text start) (to - start) ≡ column_of e (line_at text start) (from - start) + wide e (chars (slice_range text from to))
@@ -168,9 +147,7 @@ one-line : (text : List ℕ) (from to : ℕ) → from ≤ to → to ≤ length t
 one-line text from to le within none k lo hi e =
     let i : ℕ = k - from in
     let here : from + i ≡ k = omega (arith, lo) in
-    let long : length (slice_range text from to) ≡ to - from = length-take-le (to - from) (drop from text) (omega (arith, length-drop from text, within, le)) in
-    let same : get_or (slice_range text from to) i 0 ≡ get_or text k 0 = get_or-take (to - from) (drop from text) i 0 (omega (arith, lo, hi)) ∙ get_or-drop from text i 0 ∙ ap (λ j. get_or text j 0) here in
-    none i (omega arith) (omega (arith, long, lo, hi)) (ap is_line_end same ∙ e)
+    grind (arith, length-take-le, length-drop, get_or-take, get_or-drop)
 
 pub way : (e : Encoding) (text : List ℕ) (from to count : ℕ) → IsUtf8 text → from ≤ to → IsCharBoundary text from → IsCharBoundary text to → IsOneLine (slice_range text from to) 0 (length (slice_range text from to))
     → count ≡ wide e (chars (slice_range text from to)) → IsWay e text from to count
@@ -178,9 +155,7 @@ way e text from to count u le first last none is = record { utf8 = u; ordered = 
 
 -- the way is none, or leads behind
 nothing-between : (e : Encoding) (text : List ℕ) (from to count : ℕ) → from ≡ to → IsWay e text from to count → count ≡ 0
-nothing-between e text from to count same w =
-    let none : to - from ≡ 0 = omega (arith, same) in
-    w.is ∙ ap (λ n. wide e (chars (take n (drop from text)))) none ∙ ap (wide e) chars-nil
+nothing-between e text from to count same w = grind (arith, chars-nil)
 
 pub there-behind : (e : Encoding) (text : List ℕ) (from to count line column : ℕ) → to < 2 ^ 64 → column < 2 ^ 64 → from ≤ to → IsWay e text from to count → position line column ≡ position_of e text from
     → position line (min (column + count) (2 ^ 64 - 1)) ≡ position_of e text to
@@ -196,7 +171,4 @@ there-behind e text from to count line column small fits le w is = elim (cases_l
 ]
 
 pub there-before : (e : Encoding) (text : List ℕ) (from to count line column : ℕ) → to < from → IsWay e text to from count → position line column ≡ position_of e text from → position line (column - count) ≡ position_of e text to
-there-before e text from to count line column lt w is =
-    let b = behind e text to from w.utf8 lt w.first w.last w.line in
-    let there : column - count ≡ (position_of e text to).column = omega (arith, b.column, w.is, ap (λ (p : Position). p.column) is) in
-    ap (λ l. position l (column - count)) (ap (λ (p : Position). p.line) is ∙ b.line) ∙ ap (position (position_of e text to).line) there
+there-before e text from to count line column lt w is = let b = behind e text to from w.utf8 lt w.first w.last w.line in grind arith

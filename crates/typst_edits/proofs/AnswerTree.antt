@@ -1,13 +1,8 @@
 -- The tree of an edit's answer.
-use Rattle.std.proofs.Common.{◌≡◌, ℕ, ◌^◌, Bool, true, false, IsTrue, List, ◌++◌, Option, Some, None, refl, ap, sym, ◌∙◌, subst, arith}
-use Rattle.typst_edits.proofs.Words.{nat_le, if◌then◌else◌, CharClasses, Tree, Forest, none, more, bare, bare_forest, put_at, width, Candidate, tree, log, of_block, of_pieces, OpensApartLaw, listed, SpanValue, bare_head, part}
-use Rattle.std.specs.Prelude.{◌-◌}
-use Rattle.typst_tree.specs.Tree.{with_each, synthesized, nodes}
+use Rattle.typst_edits.proofs.Cited.{◌≡◌, ℕ, ◌^◌, Bool, true, false, IsTrue, List, ◌++◌, Option, Some, None, refl, ap, sym, ◌∙◌, subst, arith, nat_le, if◌then◌else◌, CharClasses, Tree, Forest, none, more, bare, bare_forest, put_at, width, Candidate, tree, log, of_block, of_pieces, OpensApartLaw, listed, SpanValue, bare_head, part, with_each, synthesized, nodes, numbered_bare, numbered_in, file_of, ◌-◌}
 use Rattle.typst_kinds.specs.Head.{spanned}
 use Rattle.typst_edits.specs.Answer.IsAnswer.{whole}
 use Rattle.typst_tree.specs.Numbers.{numbered}
-use Rattle.typst_tree.proofs.Numbering.{numbered_bare}
-use Rattle.typst_edits.specs.Answer.{numbered_in, file_of}
 use Rattle.typst_edits.specs.AnswerTree.{GivesTreeLaw, AnswerTreeLaw}
 use Rattle.typst_edits.proofs.CandidateWorth.{block-tree, in-order, one-child, reached, tree-inner}
 use Rattle.typst_edits.proofs.CandidatePlaces.{candidate-tree-law}

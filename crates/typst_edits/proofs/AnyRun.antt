@@ -1,11 +1,6 @@
 -- What the entries say of a candidate that is pieces of a run, and a reading that begins with one candidate and serves another one: for any run.
-use Rattle.std.proofs.Common.{◌≡◌, ◌⊎◌, inl, inr, ◌↔◌, ℕ, zero, suc, ◌+◌, ◌-◌, ◌^◌, ◌<◌, ◌≤◌, ◌==◌, if◌then◌else◌, min, Bool, true, false, List, ◌++◌, length, take, length-append, Option, Some, refl, ap, sym, ◌∙◌, subst, arith, lt_of_not-le, eq-zero-or-pos, pos_of_ne-zero}
-use Rattle.typst_edits.proofs.Words.{eqb-true, eqb-false, take-append-le, Place, moved, CharClasses, Tree, bare, text_of, replaced_at, width, position, Trivia, gap_of, Note, ahead-left, Entry, EntryKind, Candidate, begins, entries_by, units_of, spliced, RunKind, start_of, log, tree, entries_in, front_in, rear_in, IsPieces, text_with, Run, read_as, opened_by, end_by, cut_at, is_over, nodes_now, Agrees, Before, After, PassesPieces, PassesJoint, Gives, of_pieces, path_to, bytes_of, TakesNone, ServesMore, listed, StandsAt, AllGo, End, notes_by, IsLast, BeginsAt, FoundRun, reading_on, nodes_by, SaysPiece, PassesRead, Sequence, first_of, first_end, then_of, then_end, then_place, entries_from, run_level, stops_of, end_on, kids_of_run, run_from, StandsBetween, Served, cases_eq}
-use Rattle.typst_language.proofs.Places.{moved-min}
+use Rattle.typst_edits.proofs.Cited.{◌≡◌, ◌⊎◌, inl, inr, ◌↔◌, ℕ, zero, suc, ◌+◌, ◌-◌, ◌^◌, ◌<◌, ◌≤◌, ◌==◌, if◌then◌else◌, min, Bool, true, false, List, ◌++◌, length, take, length-append, Option, Some, refl, ap, sym, ◌∙◌, subst, arith, lt_of_not-le, eq-zero-or-pos, pos_of_ne-zero, eqb-true, eqb-false, take-append-le, Place, moved, CharClasses, Tree, bare, text_of, replaced_at, width, position, Trivia, gap_of, Note, ahead-left, Entry, Candidate, begins, entries_by, units_of, spliced, RunKind, start_of, log, tree, entries_in, front_in, rear_in, IsPieces, text_with, Run, read_as, opened_by, end_by, cut_at, is_over, nodes_now, Agrees, Before, After, PassesPieces, PassesJoint, Gives, of_pieces, path_to, bytes_of, TakesNone, ServesMore, listed, StandsAt, AllGo, End, notes_by, IsLast, BeginsAt, FoundRun, reading_on, nodes_by, SaysPiece, PassesRead, Sequence, first_of, first_end, then_of, then_end, then_place, entries_from, run_level, stops_of, end_on, kids_of_run, run_from, StandsBetween, Served, cases_eq, moved-min, begins_order, lt_of_le-ne, MeetsOn, PassesOn, reading_of}
 use Rattle.typst_edits.specs.RunTest.{Reading, read_by, carried_by, byte_after, Ends, LooksFrom, Meets}
-use Rattle.typst_edits.specs.Served.{MeetsOn, PassesOn, reading_of}
-use Rattle.typst_candidates.specs.declared.entry.EntryKind.TheVariants as entry_kind
-use Rattle.typst_candidates.proofs.Edges.{begins_order}
 use Rattle.typst_grammar.specs.declared.part.RunKind.TheVariants as of
 use Rattle.typst_edits.specs.Joint.{Meets as MeetsAfter}
 use Rattle.typst_edits.specs.RunTest.Ends.{some as apart, none as at_once}
@@ -20,7 +15,6 @@ use Rattle.typst_edits.proofs.RunPieces.{take-past, cut-some}
 use Rattle.typst_edits.proofs.RunOver.{ends-in}
 use Rattle.typst_edits.proofs.Widths.{width-append, take-same, take-longer}
 use Rattle.typst_edits.proofs.Every.{not-less, neither}
-use Rattle.std.proofs.Math.Arith.{lt_of_le-ne}
 
 -- ---- among the children
 
@@ -59,10 +53,6 @@ pub seat-stands : (front old : List ℕ) (at : ℕ) (ts : List Tree) (c : Candid
 seat-stands front old at ts c s some = subst (λ b. StandsAt at ts c.from b) (sym s.begin) (stands at ts c.from (child-at at ts c.from (s.there some)) (s.full some))
 
 -- ---- what entries say
-
-abbrev line_in : Bool → EntryKind → Bool
-line_in b (entry_kind.Piece line) = line
-line_in b _ = b
 
 -- An entry says one thing.
 says-once : (es : List Entry) (a b : ℕ) (x y : Bool × ℕ) → SaysPiece es a x → SaysPiece es b y → a ≡ b → x ≡ y

@@ -1,7 +1,5 @@
 -- The test of looks, decided by comparisons.
-use Rattle.std.proofs.Common.{◌≡◌, ℕ, ◌+◌, Bool, true, ◌&&◌, nat_le, List, [], ◌∷◌, length}
-use Rattle.typst_edits.proofs.Words.{Ask, looked, marked, AllBeginIn}
-use Rattle.std.proofs.lemmas.Bool.{leb-true}
+use Rattle.typst_edits.proofs.Cited.{◌≡◌, ℕ, ◌+◌, Bool, true, ◌&&◌, nat_le, List, [], ◌∷◌, length, Ask, looked, marked, AllBeginIn, leb-true}
 use Rattle.typst_lines.proofs.Bools.{and-first, and-second}
 
 abbrev pub begins : ℕ → List ℕ → List Ask → Bool

@@ -1,8 +1,6 @@
 -- What is noted of a block: a note where it begins, what is noted in it, and a note where it ends.
-use Rattle.std.proofs.Common.{◌≡◌, ℕ, suc, ◌+◌, ◌-◌, List, ◌∷◌, ◌++◌, take, Some, refl, ap, sym, ◌∙◌, subst, arith}
-use Rattle.typst_edits.proofs.Words.{Place, moved, CharClasses, width, position, Nested, shift, no_log, logged, Outcome, start_point, point_of, state_of, markup_reading, rules, max_depth, start_of, whole, parsed, log, Among, blocks_of_text, block_at, Named, Noting, noting, notes_in, Spot, unit_at, ended, lowered}
+use Rattle.typst_edits.proofs.Cited.{◌≡◌, ℕ, suc, ◌+◌, ◌-◌, List, ◌∷◌, ◌++◌, take, Some, refl, ap, sym, ◌∙◌, subst, arith, Place, moved, CharClasses, width, position, Nested, shift, no_log, logged, Outcome, start_point, point_of, state_of, markup_reading, rules, max_depth, start_of, whole, parsed, log, Among, blocks_of_text, block_at, Named, Noting, noting, notes_in, Spot, unit_at, ended, lowered, NestedBlock, NestedBlockLaw}
 use Rattle.typst_language.specs.declared.calls.Mark.TheVariants as mark
-use Rattle.typst_edits.specs.Nested.{NestedBlock, NestedBlockLaw}
 use Rattle.typst_edits.proofs.Blocks.{ends as block-ends}
 use Rattle.typst_edits.proofs.Bytes.{asks-are, notes-one, none_yet, fresh_notes, next_note, noted-length, logged-notes, notes-around, notes-lowered}
 use Rattle.typst_edits.proofs.Edit.{among}

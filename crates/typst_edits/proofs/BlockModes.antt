@@ -1,7 +1,5 @@
 -- A block's reading needs no more of the state where it begins than the mode of its first token.
-use Rattle.std.proofs.Common.{◌≡◌, ℕ, ◌+◌, Bool, true, false, List, [], ◌∷◌, ◌++◌, None, refl, ap, sym, ◌∙◌}
-use Rattle.typst_edits.proofs.Words.{SyntaxMode, is_error, Place, moved, CharClasses, Tree, text_of, Token, Block, Reading, State, Ask, Hand, Ahead, token_at, len_at, at_trivia, known_by, ahead_asks, ahead_asks_of, column_asks, hand_at, hand_asks, column_at, meaning_of, Outcome, Level, plain, joined, wrapped, before, blockless, entered, renewed, asked, hand_of, hand_asks_of, taken_node, run, gave, Point, point_of, no_newlines, after_node, itself, peek, node, eat_making, eat, Parser, ◌>>◌, ◌>>=◌, at_token, takes, gives, does, next, rules, content_block, markup_reading, code_block, code_reading}
-use Rattle.typst_language.specs.Hand.{hand_by}
+use Rattle.typst_edits.proofs.Cited.{◌≡◌, ℕ, ◌+◌, Bool, true, false, List, [], ◌∷◌, ◌++◌, None, refl, ap, sym, ◌∙◌, SyntaxMode, is_error, Place, moved, CharClasses, Tree, text_of, Token, Block, Reading, State, Ask, Hand, Ahead, token_at, len_at, at_trivia, known_by, ahead_asks, ahead_asks_of, column_asks, hand_at, hand_asks, column_at, meaning_of, Outcome, Level, plain, joined, wrapped, before, blockless, entered, renewed, asked, hand_of, hand_asks_of, taken_node, run, gave, Point, point_of, no_newlines, after_node, itself, peek, node, eat_making, eat, Parser, ◌>>◌, ◌>>=◌, at_token, takes, gives, does, next, rules, content_block, markup_reading, code_block, code_reading, hand_by}
 use Rattle.typst_language.specs.declared.calls.Block.TheVariants as block
 use Rattle.typst_edits.specs.BlockModes.{SameRead, ModeLaw}
 use Rattle.typst_edits.proofs.Blocks.{enclosing}

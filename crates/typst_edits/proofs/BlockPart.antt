@@ -1,13 +1,10 @@
 -- What is logged of a block that is read by itself is what is logged of it where it stands.
-use Rattle.std.proofs.Common.{◌≡◌, ℕ, zero, suc, ◌+◌, ◌-◌, ◌<◌, ◌^◌, max, min, List, [], ◌∷◌, ◌++◌, Option, None, Some, refl, ap, sym, ◌∙◌, subst, arith}
-use Rattle.typst_edits.proofs.Words.{back_of, entries_by, entry_of, last_start, Place, moved, moved_from, position, width, far, near, Note, Ask, shift, looked, marked, Log, no_log, logged, with_note, moved-sum, max_depth, start_of, block_log, closing, entries_from, noting, lowered, logged-append}
+use Rattle.typst_edits.proofs.Cited.{◌≡◌, ℕ, zero, suc, ◌+◌, ◌-◌, ◌<◌, ◌^◌, max, min, List, [], ◌∷◌, ◌++◌, Option, None, Some, refl, ap, sym, ◌∙◌, subst, arith, back_of, entries_by, entry_of, last_start, Place, moved, moved_from, position, width, far, near, Note, Ask, shift, looked, marked, Log, no_log, logged, with_note, moved-sum, max_depth, start_of, block_log, closing, entries_from, noting, lowered, logged-append, AllFit, same_Some}
 use Rattle.typst_candidates.specs.declared.entry.EntryKind.TheVariants as entry_kind
 use Rattle.typst_language.specs.declared.calls.Mark.TheVariants as mark
 use Rattle.typst_edits.specs.BlockPart.{BlockPartLaw, PartFitsLaw, own_log}
 use Rattle.typst_edits.proofs.Bytes.{none_yet, notes_from, fresh_notes, logged-notes, logged-lowered}
 use Rattle.typst_edits.proofs.Widths.{width-append}
-use Rattle.typst_candidates.specs.Records.{AllFit}
-use Rattle.std.proofs.lemmas.Option.{same_Some}
 
 entries-more : (start : ℕ) (ns : List Note) (n : Note) → entries_by start (ns ++ n ∷ []) ≡ entries_by start ns ++ entry_of (last_start start ns) n ∷ []
 entries-more start [] n = refl

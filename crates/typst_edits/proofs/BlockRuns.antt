@@ -1,8 +1,6 @@
 -- The law of an edit inside some pieces of a run: of a text's and of a content block's.
-use Rattle.std.proofs.Common.{◌≡◌, ℕ, ◌+◌, ◌<◌, Bool, true, List, ◌++◌, length, refl, ap, sym, ◌∙◌, subst, arith, suc, ◌==◌, if◌then◌else◌, ne_eqb, false, [], ◌∷◌}
-use Rattle.typst_edits.proofs.Words.{Place, moved, CharClasses, SameIn, is_end, too_deep, Point, point_of, state_of, gap_of, peek, flush_trivia, close_if, node, node_with_trivia, repeat, does, Outcome, repeated, run, plain, joined, entered, done, Framed, Within, sane-at, Sane, sane-run, sane-meaning, sane-plain, same_in-shift, same_in-first, same_in-second, moved-sum, markup_run, markup_turn, ends_block, content_block, markup_is_empty, markup_reading, rules, max_depth, start_of, whole, parsed, level_at, text_with, Passes, AllGo, asks_of, chain, piece_at, start, lead, pieces, end_at, pieces_from, end_from, rest_from, tail, whole_of, after_pieces, text_run, same, marked, AtHand, after_node, itself, Parser, ◌>>◌, takes, block_at, Sequence, turn_of, first_of, first_end, then_of, then_end, then_place, rest_of, Spot, ended, unit_at, inner, look_first, look_again, bracket, inner_lead, inner_run, inner_tail, inner_close, content_with, run_at, tail_at, close_at, EndsBefore, run_of, body_of, left_at}
+use Rattle.typst_edits.proofs.Cited.{◌≡◌, ℕ, ◌+◌, ◌<◌, Bool, true, List, ◌++◌, length, refl, ap, sym, ◌∙◌, subst, arith, suc, ◌==◌, if◌then◌else◌, ne_eqb, false, [], ◌∷◌, Place, moved, CharClasses, SameIn, is_end, too_deep, Point, point_of, state_of, gap_of, peek, flush_trivia, close_if, node, node_with_trivia, repeat, does, Outcome, repeated, run, plain, joined, entered, done, Framed, Within, sane-at, Sane, sane-run, sane-meaning, sane-plain, same_in-shift, same_in-first, same_in-second, moved-sum, markup_run, markup_turn, ends_block, content_block, markup_is_empty, markup_reading, rules, max_depth, start_of, whole, parsed, level_at, text_with, Passes, AllGo, asks_of, chain, piece_at, start, lead, pieces, end_at, pieces_from, end_from, rest_from, tail, whole_of, after_pieces, text_run, same, marked, AtHand, after_node, itself, Parser, ◌>>◌, takes, block_at, Sequence, turn_of, first_of, first_end, then_of, then_end, then_place, rest_of, Spot, ended, unit_at, inner, look_first, look_again, bracket, inner_lead, inner_run, inner_tail, inner_close, content_with, run_at, tail_at, close_at, EndsBefore, run_of, body_of, left_at, content_of, InnerLaw}
 use Rattle.typst_edits.specs.Runs.{RunLaw, StartLaw}
-use Rattle.typst_edits.specs.BlockRuns.{content_of, InnerLaw}
 use Rattle.typst_edits.proofs.Edit.{before-same, after-same}
 use Rattle.typst_edits.proofs.Spots.{same_in-at}
 use Rattle.typst_edits.proofs.Runs.{repeated-chain, chain-state, split, split-taken, first-again, rest-again, moved-three, moved-four, split-state}

@@ -1,13 +1,10 @@
 -- What the records find of a block candidate.
-use Rattle.std.proofs.Common.{◌≡◌, ◌↔◌, ℕ, zero, suc, ◌+◌, ◌-◌, ◌^◌, ◌<◌, ◌≤◌, true, false, if◌then◌else◌, max, min, List, [], ◌∷◌, ◌++◌, length, take, drop, length-append, append_assoc, Option, Some, None, refl, ap, sym, ◌∙◌, subst, arith}
-use Rattle.typst_edits.proofs.Words.{SyntaxMode, Place, moved, CharClasses, Tree, text_of, width, position, far, near, Block, Mark, Note, Reading, State, Ask, looked, marked, Log, no_log, logged, Outcome, start_point, point_of, moved-sum, ahead-left, Entry, EntryKind, Candidate, closing_of, count_of, entry_kind_of, entry_of, entries_by, last_start, units_of, spliced, opening_of, IsRising, closing-found, markup_reading, rules, max_depth, start_of, whole, parsed, log, block_log, entries_in, front_in, rear_in, SaysBlock, entries_alone, Among, text_with, AllEndBy, AllBeginIn, Passes, this, that, Every, Gives, of_block, of_pieces, path_of, InOrderLaw, blocks_of_text, block_at, is_opening, opened, Named, listed, notes_in, entries_from, Spot, ended, last_node, unit_at, seconds_of_text, IsOf, Stems, from_unit, from_second, place_of, lawful-block, none-some}
-use Rattle.typst_candidates.specs.Entries.{block_end}
+use Rattle.typst_edits.proofs.Cited.{◌≡◌, ◌↔◌, ℕ, zero, suc, ◌+◌, ◌-◌, ◌^◌, ◌<◌, ◌≤◌, true, false, if◌then◌else◌, max, min, List, [], ◌∷◌, ◌++◌, length, take, drop, length-append, append_assoc, Option, Some, None, refl, ap, sym, ◌∙◌, subst, arith, SyntaxMode, Place, moved, CharClasses, Tree, text_of, width, position, far, near, Block, Mark, Note, Reading, State, Ask, looked, marked, Log, no_log, logged, Outcome, start_point, point_of, moved-sum, ahead-left, Entry, EntryKind, Candidate, closing_of, count_of, entry_kind_of, entry_of, entries_by, last_start, units_of, spliced, opening_of, IsRising, closing-found, markup_reading, rules, max_depth, start_of, whole, parsed, log, block_log, entries_in, front_in, rear_in, SaysBlock, entries_alone, Among, text_with, AllEndBy, AllBeginIn, Passes, this, that, Every, Gives, of_block, of_pieces, path_of, InOrderLaw, blocks_of_text, block_at, is_opening, opened, Named, listed, notes_in, entries_from, Spot, ended, last_node, unit_at, seconds_of_text, IsOf, Stems, from_unit, from_second, place_of, lawful-block, none-some, block_end, block_alone}
 use Rattle.typst_edits.specs.BlockTest.{BlockTestLaw, PassesAlone, FoundBlock}
 use Rattle.std.specs.List.{slice_get}
 use Rattle.typst_language.specs.declared.calls.Mark.TheVariants as mark
 use Rattle.typst_language.specs.declared.reading.AtNewline.TheVariants as newline
 use Rattle.typst_candidates.specs.declared.entry.EntryKind.TheVariants as entry_kind
-use Rattle.typst_grammar.specs.Part.{block_alone}
 use Rattle.typst_edits.proofs.BlockModes.{mode-law}
 use Rattle.typst_edits.proofs.BlockPart.{block-part-law}
 use Rattle.typst_edits.proofs.BlockPlaces.{Meets, candidate-at, hole-same, meets, some-node, second-place}

@@ -1,6 +1,5 @@
 -- Each block of the grammar ends in its node.
-use Rattle.std.proofs.Common.{◌≡◌, ℕ, ◌+◌, Bool, true, false, List, [], ◌∷◌, ◌++◌, take, append-nil, append_assoc, refl, ap, sym, ◌∙◌}
-use Rattle.typst_edits.proofs.Words.{Tree, Place, moved, CharClasses, Block, Point, Shape, hinted, encloses, peek, node, Parser, ◌>>◌, at_token, blocks_of, meaning_of, Outcome, Level, plain, less, joined, before, wrapped, blockless, run, less-none, less-append, content_block, code_block, rules, kind_of, block_head, last_node}
+use Rattle.typst_edits.proofs.Cited.{◌≡◌, ℕ, ◌+◌, Bool, true, false, List, [], ◌∷◌, ◌++◌, take, append-nil, append_assoc, refl, ap, sym, ◌∙◌, Tree, Place, moved, CharClasses, Block, Point, Shape, hinted, encloses, peek, node, Parser, ◌>>◌, at_token, blocks_of, meaning_of, Outcome, Level, plain, less, joined, before, wrapped, blockless, run, less-none, less-append, content_block, code_block, rules, kind_of, block_head, last_node}
 use Rattle.typst_language.specs.declared.calls.Block.TheVariants as block
 use Rattle.typst_edits.proofs.Law.{Ends}
 

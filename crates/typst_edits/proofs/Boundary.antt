@@ -1,8 +1,6 @@
 -- The notes where pieces of a run end, and what their numbers say.
-use Rattle.std.proofs.Common.{◌≡◌, ◌==◌, ℕ, zero, suc, ◌+◌, ◌-◌, ◌<◌, ◌≤◌, ◌^◌, max, Bool, true, false, ◌&&◌, nat_lt, List, [], ◌∷◌, ◌++◌, length, take, append_assoc, append-nil, Some, refl, ap, sym, ◌∙◌, subst, arith}
-use Rattle.typst_edits.proofs.Words.{and_parts, map-append, SyntaxKind, Place, moved, CharClasses, width, position, MarkupExpr, Mark, Note, State, Ask, shift, shift_one, sunk, marked, deeper, AtHand, as_at_hand, known_by, no_log, logged, Outcome, Meaning, Level, plain, joined, repeated, hand_of, hand_asks_of, asked, start_point, run, Trivia, Point, gap_of, state_of, note, hand-again, moved-sum, ends, note_piece, markup_turn, markup_reading, rules, max_depth, start_of, whole, parsed, log, highest, lowest, AllEndBy, made, AllGo, end_of, asks_of, chain, Noting, notes_in, Sequence, turn_of, on_both, made-sum, both_ways, false_from_ne_true, if-true, if-false}
+use Rattle.typst_edits.proofs.Cited.{◌≡◌, ◌==◌, ℕ, zero, suc, ◌+◌, ◌-◌, ◌<◌, ◌≤◌, ◌^◌, max, Bool, true, false, ◌&&◌, nat_lt, List, [], ◌∷◌, ◌++◌, length, take, append_assoc, append-nil, Some, refl, ap, sym, ◌∙◌, subst, arith, and_parts, map-append, SyntaxKind, Place, moved, CharClasses, width, position, MarkupExpr, Mark, Note, State, Ask, shift, shift_one, sunk, marked, deeper, AtHand, as_at_hand, known_by, no_log, logged, Outcome, Meaning, Level, plain, joined, repeated, hand_of, hand_asks_of, asked, start_point, run, Trivia, Point, gap_of, state_of, note, hand-again, moved-sum, ends, note_piece, markup_turn, markup_reading, rules, max_depth, start_of, whole, parsed, log, highest, lowest, AllEndBy, made, AllGo, end_of, asks_of, chain, Noting, notes_in, Sequence, turn_of, on_both, made-sum, both_ways, false_from_ne_true, if-true, if-false, end-append, go-append}
 use Rattle.typst_edits.specs.Splice.{noting as as_ask}
-use Rattle.typst_grammar.proofs.Pieces.{end-append, go-append}
 use Rattle.typst_language.specs.declared.calls.Mark.TheVariants as mark
 use Rattle.typst_edits.proofs.Bytes.{AllReach, end-by, end-to, AllFrom, none_yet, fresh_notes, next_note, noted-length, logged-notes, logged-least, notes-around, least-around, reach-by, reach-to, least-by, least-to, AllMarks, marks-append, marks-shift, marks-sunk, none-hand}
 use Rattle.typst_edits.proofs.Outcomes.{shift-zero, shift-twice, shift-append}

@@ -1,6 +1,5 @@
 -- The test of an edit in bytes: the notes that a log keeps of what is asked, and what their numbers say of the looks.
-use Rattle.std.proofs.Common.{◌≡◌, ℕ, suc, ◌+◌, ◌-◌, ◌<◌, ◌≤◌, ◌^◌, max, min, List, [], ◌∷◌, ◌++◌, length, append_assoc, append-nil, Some, refl, ap, sym, ◌∙◌, arith, zero, Bool, true, false, if◌then◌else◌, Option, None, take, length-append, subst}
-use Rattle.typst_edits.proofs.Words.{Place, moved, position, far, near, width, Mark, Note, State, Ask, shift, sunk, looked, marked, Log, no_log, logged, with_note, moved-sum, highest, lowest, listed, Noting, noting, notes_in, lowered, Spot, unit_at, around, same, SyntaxMode, CharClasses, Newlines, Reading, len_at, at_trivia, asks_by, ahead_asks, ahead_of, asks_column, column_asks, hand_asks, as_at_hand, Trivia, Point, state_of, Outcome, Level, plain, joined, hand_of, hand_asks_of, asked, done, run, start_point, itself, close_if, takes, on_both, markup_reading, rules, max_depth, start_of, whole, parsed, log, text_with, AllEndBy, AllBeginIn, blocks_of_text, block_at, Named, logged-append}
+use Rattle.typst_edits.proofs.Cited.{◌≡◌, ℕ, suc, ◌+◌, ◌-◌, ◌<◌, ◌≤◌, ◌^◌, max, min, List, [], ◌∷◌, ◌++◌, length, append_assoc, append-nil, Some, refl, ap, sym, ◌∙◌, arith, zero, Bool, true, false, if◌then◌else◌, Option, None, take, length-append, subst, Place, moved, position, far, near, width, Mark, Note, State, Ask, shift, sunk, looked, marked, Log, no_log, logged, with_note, moved-sum, highest, lowest, listed, Noting, noting, notes_in, lowered, Spot, unit_at, around, same, SyntaxMode, CharClasses, Newlines, Reading, len_at, at_trivia, asks_by, ahead_asks, ahead_of, asks_column, column_asks, hand_asks, as_at_hand, Trivia, Point, state_of, Outcome, Level, plain, joined, hand_of, hand_asks_of, asked, done, run, start_point, itself, close_if, takes, on_both, markup_reading, rules, max_depth, start_of, whole, parsed, log, text_with, AllEndBy, AllBeginIn, blocks_of_text, block_at, Named, logged-append}
 use Rattle.typst_tokens.specs.Sight.{hull_of}
 use Rattle.typst_language.specs.Log.{with_hull}
 use Rattle.typst_edits.specs.Bytes.{Decided, DecisionLaw}

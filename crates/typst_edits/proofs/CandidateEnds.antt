@@ -1,7 +1,5 @@
 -- Where a stretch of a run's children ends, and what of the run's pieces begins and ends there.
-use Rattle.std.proofs.Common.{◌≡◌, ℕ, zero, suc, ◌+◌, ◌-◌, ◌<◌, ◌≤◌, max, Bool, true, false, not, ◌&&◌, if◌then◌else◌, List, [], ◌∷◌, ◌++◌, length, drop, length-append, append_assoc, append-nil, Some, refl, ap, sym, ◌∙◌, subst, arith, encode_utf8_all, Option, inl, lt_of_not-le, pos_of_ne-zero, inr}
-use Rattle.typst_edits.proofs.Words.{nat_le, nat_lt, nat_tests, ltb-true, and_parts, same, is_trivia, is_error, Tree, text_of, error_of, leaf_of, Outcome, plain, less, Meaning, Trivia, Point, pending, less-none, Child, laid, first_near, end_near, is_among, ChildRange, begins, clings, is_hash, leads, holds_at, back_past, on_past, with_hash, together, Every, is_over, minds_at, first_place, read_by, onwards_by, GoesOnWell, begins_wrong, after_known, StartsWell, bytes_of, LeadsAt, StandsAt, Sequence, turn_of, first_end, then_end, SyntaxKind, SyntaxMode, Place, moved, CharClasses, Token, Reading, token_at, len_at, at_trivia, Ahead, direct, after_trivia, ahead_by, ahead, text_ahead, hand_at, token_node, is_raw, has_fields, peek, markup_turn, rules, max_depth, level_at, inner, bracket, inner_run, text_run, made, end_of, start, access_node, raw_node, false_from_ne_true, cases_lt, IsRun, is_text_run, is_block_run, is_end, ends_block}
-use Rattle.std.proofs.lemmas.Bool.{not-false, or_parts}
+use Rattle.typst_edits.proofs.Cited.{◌≡◌, ℕ, zero, suc, ◌+◌, ◌-◌, ◌<◌, ◌≤◌, max, Bool, true, false, not, ◌&&◌, if◌then◌else◌, List, [], ◌∷◌, ◌++◌, length, drop, length-append, append_assoc, append-nil, Some, refl, ap, sym, ◌∙◌, subst, arith, encode_utf8_all, Option, inl, lt_of_not-le, pos_of_ne-zero, inr, nat_le, nat_lt, nat_tests, ltb-true, and_parts, same, is_trivia, is_error, Tree, text_of, error_of, leaf_of, Outcome, plain, less, Meaning, Trivia, Point, pending, less-none, Child, laid, first_near, end_near, is_among, ChildRange, begins, clings, is_hash, leads, holds_at, back_past, on_past, with_hash, together, Every, is_over, minds_at, first_place, read_by, onwards_by, GoesOnWell, begins_wrong, after_known, StartsWell, bytes_of, LeadsAt, StandsAt, Sequence, turn_of, first_end, then_end, SyntaxKind, SyntaxMode, Place, moved, CharClasses, Token, Reading, token_at, len_at, at_trivia, Ahead, direct, after_trivia, ahead_by, ahead, text_ahead, hand_at, token_node, is_raw, has_fields, peek, markup_turn, rules, max_depth, level_at, inner, bracket, inner_run, text_run, made, end_of, start, access_node, raw_node, false_from_ne_true, cases_lt, IsRun, is_text_run, is_block_run, is_end, ends_block, not-false, or_parts}
 use Rattle.typst_candidates.specs.Candidates.{ended, around}
 use Rattle.typst_candidates.proofs.Edges.{begins_least as begins-from}
 use Rattle.typst_edits.proofs.CandidatePlaces.{length-laid, back-le, on-ge, on-le, hash-le, begun-le, begun-ended}

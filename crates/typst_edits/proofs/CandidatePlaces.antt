@@ -1,15 +1,10 @@
 -- Candidates stand in the tree: along a path of inner nodes, as children that are there.
-use Rattle.std.proofs.Common.{◌≡◌, ℕ, zero, suc, ◌+◌, ◌-◌, ◌*◌, min, Bool, true, false, ◌&&◌, List, [], ◌∷◌, ◌++◌, length, map, Option, Some, None, refl, ap, sym, ◌∙◌, ◌≤◌, ◌<◌, IsTrue, take, subst, arith, append_assoc, length-append}
-use Rattle.typst_edits.proofs.Words.{nat_le, option_map, slice_get, ◌==◌, nat_lt, if◌then◌else◌, is_block, Note, Forest, none, more, Tree, forest, trees, text_of, bare, bare_forest, Head, Child, laid, first_near, end_near, child_at, ChildRange, Candidate, begins, of_run, run_in, candidates_at, of_children, is_hash, holds_at, back_past, on_past, is_all, child_ranges, of_child_ranges, covers, with_hash, top_cuts, nat_tests, At, Reaches, start_at, or_none, Every, on_both, length-map}
+use Rattle.typst_edits.proofs.Cited.{◌≡◌, ℕ, zero, suc, ◌+◌, ◌-◌, ◌*◌, min, Bool, true, false, ◌&&◌, List, [], ◌∷◌, ◌++◌, length, map, Option, Some, None, refl, ap, sym, ◌∙◌, ◌≤◌, ◌<◌, IsTrue, take, subst, arith, append_assoc, length-append, nat_le, option_map, slice_get, ◌==◌, nat_lt, if◌then◌else◌, is_block, Note, Forest, none, more, Tree, forest, trees, text_of, bare, bare_forest, Head, Child, laid, first_near, end_near, child_at, ChildRange, Candidate, begins, of_run, run_in, candidates_at, of_children, is_hash, holds_at, back_past, on_past, is_all, child_ranges, of_child_ranges, covers, with_hash, top_cuts, nat_tests, At, Reaches, start_at, or_none, Every, on_both, length-map, joined_bare, begun_none, text_bare, slice_get_within}
 use Rattle.typst_tree.specs.Tree.{joined}
 use Rattle.typst_candidates.specs.Candidates.{begun, ended, from_of, to_of, around, of_block, candidates}
 use Rattle.std.proofs.lemmas.List.{append-nil}
-use Rattle.typst_tree.proofs.Numbering.{joined_bare}
-use Rattle.typst_tree.proofs.ReplacesChildren.{text_bare}
 use Rattle.typst_edits.proofs.Replaced.{trees-bare, replaced-law}
 use Rattle.typst_edits.specs.BareCandidates.{BareCandidatesLaw}
-use Rattle.std.proofs.lemmas.Option.{slice_get_within}
-use Rattle.typst_candidates.proofs.Edges.{begun_none}
 pub use Rattle.typst_candidates.proofs.Edges.{laid_length as length-laid}
 use Rattle.typst_edits.proofs.Edit.{among}
 use Rattle.typst_edits.proofs.Every.{every-by, every-if}

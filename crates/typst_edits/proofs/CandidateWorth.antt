@@ -1,8 +1,6 @@
 -- Each candidate that passes is worth its new nodes and entries: a block, pieces of a text's own run, and pieces of a content block.
-use Rattle.std.proofs.Common.{◌≡◌, ℕ, zero, suc, ◌+◌, ◌≤◌, List, [], ◌∷◌, ◌++◌, length, refl, ap, sym, ◌∙◌, subst, arith, Bool, true, false, IsTrue, length-append, take, Option}
-use Rattle.typst_edits.proofs.Words.{Tree, forest, trees, inner_of, Forest, none, more, bare, Reaches, put_at, trees_forest, CharClasses, moved, position, width, Candidate, is_among, begins, laid, first_near, run_in, candidates_at, tree, parsed, max_depth, log, block_log, with_children, exchanged, Among, alter, replaced, text_with, Passes, put, path_of, blocks_of_text, notes_in, entries_from, token_start, Spot, last_node, unit_at, is_over, Agrees, top, PassesPieces, of_block, of_pieces, text_run, root_run, StandsAt, BeginsWell, end_note, pieces_log, asks_of, pieces, pieces_from, end_from, piece_at, lead, end_at, Note, Trivia, gap_of, top_cuts, candidates, Every, OpensApartLaw, listed, true_from_ne_false, block_run, token_after}
+use Rattle.typst_edits.proofs.Cited.{◌≡◌, ℕ, zero, suc, ◌+◌, ◌≤◌, List, [], ◌∷◌, ◌++◌, length, refl, ap, sym, ◌∙◌, subst, arith, Bool, true, false, IsTrue, length-append, take, Option, Tree, forest, trees, inner_of, Forest, none, more, bare, Reaches, put_at, trees_forest, CharClasses, moved, position, width, Candidate, is_among, begins, laid, first_near, run_in, candidates_at, tree, parsed, max_depth, log, block_log, with_children, exchanged, Among, alter, replaced, text_with, Passes, put, path_of, blocks_of_text, notes_in, entries_from, token_start, Spot, last_node, unit_at, is_over, Agrees, top, PassesPieces, of_block, of_pieces, text_run, root_run, StandsAt, BeginsWell, end_note, pieces_log, asks_of, pieces, pieces_from, end_from, piece_at, lead, end_at, Note, Trivia, gap_of, top_cuts, candidates, Every, OpensApartLaw, listed, true_from_ne_false, block_run, token_after, Worth, CandidateLaw}
 use Rattle.typst_edits.specs.Frame.{inner}
-use Rattle.typst_edits.specs.Answer.{Worth, CandidateLaw}
 use Rattle.typst_edits.specs.BlockWorth.{BlockWorthLaw}
 use Rattle.typst_edits.proofs.RunSplice.{block-splice-law, run-splice-law, around-splice-law}
 use Rattle.typst_edits.proofs.Replaced.{put-law}

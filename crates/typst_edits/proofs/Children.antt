@@ -1,11 +1,8 @@
 -- A tree where some pieces of a run are read again: one stretch of the children of the run's node exchanged, of a text's root or of a content block's markup.
-use Rattle.std.proofs.Common.{◌≡◌, inl, inr, ℕ, zero, suc, ◌+◌, ◌<◌, ◌≤◌, Bool, true, false, nat_lt, List, [], ◌++◌, length, drop, length-append, append_assoc, Some, refl, ap, sym, ◌∙◌, subst, arith, ◌-◌, if◌then◌else◌, ◌∷◌, take, codes, append-nil}
-use Rattle.typst_edits.proofs.Words.{SyntaxKind, Place, moved, Tree, forest, trees, inner_of, made_error, CharClasses, is_end, as_at_hand, Hand, Trivia, Point, point_of, state_of, gap_of, pending, hinted, shaped, after_node, encloses, becomes, flush_trivia, close_if, ◌>>=◌, repeat, Outcome, Meaning, Level, plain, less, standing, joined, hand_of, run, wrapped, repeated, left_to, start_point, entered, asked, taken_node, done, hand_asks_of, flushed_state, Tidy, Backs, sane-run, sane-meaning, sane-plain, ends, markup_turn, ends_block, markup_reading, rules, max_depth, level_at, start_of, tree, whole, parsed, Settles, with_children, together, read_by, standing_by, nodes_after, exchanged, text_with, Among, alter, replaced, onwards_at, text_run, given, made, AllGo, end_of, lead, pieces, end_at, chain, End, first_place, Sequence, turn_of, first_of, first_end, then_of, then_end, then_place, rest_of, same, marked, itself, takes, less-none, inner, look_again, bracket, inner_lead, inner_run, inner_tail, inner_close, content_with, run_at, tail_at, close_at, run_of, body_of, Deep, fill, path_in, Hole, plug, path_of, under, block_with, blocks_of_text, Spot, last_node, unit_at, SameIn, on_both, standing-joined, At, AtPath, kids_of, slice_get, kids_in, kids_of_run, path_to, Run, read_as, top, IsRun, is_text_run, is_block_run, PassesJoint}
+use Rattle.typst_edits.proofs.Cited.{◌≡◌, inl, inr, ℕ, zero, suc, ◌+◌, ◌<◌, ◌≤◌, Bool, true, false, nat_lt, List, [], ◌++◌, length, drop, length-append, append_assoc, Some, refl, ap, sym, ◌∙◌, subst, arith, ◌-◌, if◌then◌else◌, ◌∷◌, take, codes, append-nil, SyntaxKind, Place, moved, Tree, forest, trees, inner_of, made_error, CharClasses, is_end, as_at_hand, Hand, Trivia, Point, point_of, state_of, gap_of, pending, hinted, shaped, after_node, encloses, becomes, flush_trivia, close_if, ◌>>=◌, repeat, Outcome, Meaning, Level, plain, less, standing, joined, hand_of, run, wrapped, repeated, left_to, start_point, entered, asked, taken_node, done, hand_asks_of, flushed_state, Tidy, Backs, sane-run, sane-meaning, sane-plain, ends, markup_turn, ends_block, markup_reading, rules, max_depth, level_at, start_of, tree, whole, parsed, Settles, with_children, together, read_by, standing_by, nodes_after, exchanged, text_with, Among, alter, replaced, onwards_at, text_run, given, made, AllGo, end_of, lead, pieces, end_at, chain, End, first_place, Sequence, turn_of, first_of, first_end, then_of, then_end, then_place, rest_of, same, marked, itself, takes, less-none, inner, look_again, bracket, inner_lead, inner_run, inner_tail, inner_close, content_with, run_at, tail_at, close_at, run_of, body_of, Deep, fill, path_in, Hole, plug, path_of, under, block_with, blocks_of_text, Spot, last_node, unit_at, SameIn, on_both, standing-joined, At, AtPath, kids_of, slice_get, kids_in, kids_of_run, path_to, Run, read_as, top, IsRun, is_text_run, is_block_run, PassesJoint, backs-joined, ChildrenLaw, NodeLaw, BackLaw}
 use Rattle.typst_language.specs.Point.{is_nil}
-use Rattle.typst_edits.specs.Children.{ChildrenLaw, NodeLaw, BackLaw}
 use Rattle.typst_edits.specs.Frame.{inner as block_inner}
 use Rattle.typst_edits.specs.Hole.Deep.{bare}
-use Rattle.typst_language.proofs.Backs.{backs-joined}
 use Rattle.typst_edits.proofs.Boundary.{KnownAt, first-of, going-on, known-made}
 use Rattle.typst_edits.proofs.Edit.{trees-of, among, before-same, alter-at, replaced-plug}
 use Rattle.typst_edits.proofs.Joint.{onwards-is, block-taking, first-now, inner-joint-law, leads-of, is-run, joined-behind, same-start}

@@ -1,10 +1,8 @@
 -- Each block that a reading notes stands in it, or a shape took its node.
-use Rattle.std.proofs.Common.{◌≡◌, ◌⊎◌, inl, inr, ℕ, zero, suc, Bool, true, false, ◌&&◌, if◌then◌else◌, nat_lt, List, [], ◌∷◌, ◌++◌, length, map, append-nil, Option, Some, None, refl, ap, sym, ◌∙◌, subst}
-use Rattle.typst_edits.proofs.Words.{flat_map, map-append, SyntaxMode, Place, moved, CharClasses, Block, Reading, Ask, shift, shift_one, sunk, sink_one, only_looks, looked, marked, Call, Answer, at_trivia, len_at, asks_by, ahead_asks, ahead_of, ahead_asks_of, asks_column, column_asks, hand_asks, column_look, Trivia, Point, state_of, forgot, Shape, peek, Parser, Begin, ◌>>◌, flushes, gives, does, next, pick, repeat, wraps, grows, nests, scoped, either, calls, block, Rules, meaning_of, level_of, markup_reading, Outcome, Meaning, Level, answered, joined, followed, as_last, turns, bound, repeated, before, blockless, grown, is_more, growths, growing, nestings, nesting, bounded, given_up, entered, plain, start_point, done, run, rules, max_depth, start_of, whole, Among, this, that, Hole, blocks_of_text, is_opening, opened, Spots, joined_spots, goes, last_spot, turns_spots, repeated_spots, reshaped_spot, wrapped_spot, grown_spot, growths_spots, growing_spots, nestings_spots, nesting_spots, scoped_spot, bounded_spots, spots, call_spots, block_spots, level_spots, Spot, valued, then_spot, after_spot, rehole, sunk_spot, closed_spot, on_both}
+use Rattle.typst_edits.proofs.Cited.{◌≡◌, ◌⊎◌, inl, inr, ℕ, zero, suc, Bool, true, false, ◌&&◌, if◌then◌else◌, nat_lt, List, [], ◌∷◌, ◌++◌, length, map, append-nil, Option, Some, None, refl, ap, sym, ◌∙◌, subst, flat_map, map-append, SyntaxMode, Place, moved, CharClasses, Block, Reading, Ask, shift, shift_one, sunk, sink_one, only_looks, looked, marked, Call, Answer, at_trivia, len_at, asks_by, ahead_asks, ahead_of, ahead_asks_of, asks_column, column_asks, hand_asks, column_look, Trivia, Point, state_of, forgot, Shape, peek, Parser, Begin, ◌>>◌, flushes, gives, does, next, pick, repeat, wraps, grows, nests, scoped, either, calls, block, Rules, meaning_of, level_of, markup_reading, Outcome, Meaning, Level, answered, joined, followed, as_last, turns, bound, repeated, before, blockless, grown, is_more, growths, growing, nestings, nesting, bounded, given_up, entered, plain, start_point, done, run, rules, max_depth, start_of, whole, Among, this, that, Hole, blocks_of_text, is_opening, opened, Spots, joined_spots, goes, last_spot, turns_spots, repeated_spots, reshaped_spot, wrapped_spot, grown_spot, growths_spots, growing_spots, nestings_spots, nesting_spots, scoped_spot, bounded_spots, spots, call_spots, block_spots, level_spots, Spot, valued, then_spot, after_spot, rehole, sunk_spot, closed_spot, on_both, grown-asks}
 use Rattle.typst_edits.specs.Lost.{opening, opens, unless_some, lost_in, Lost, turns_lost, grown_lost, growths_lost, nestings_lost, lost, call_lost, block_lost, level_lost, lost_of_text, Stands, CompleteLaw}
 use Rattle.std.proofs.lemmas.Grind.{flat_map-append}
 use Rattle.typst_language.specs.declared.calls.Mark.TheVariants as mark
-use Rattle.typst_language.proofs.Frame.{grown-asks}
 use Rattle.typst_edits.specs.Lost.Stands.{stands, is_lost}
 use Rattle.typst_edits.proofs.Every.{Every, every-append, every-map, every-by}
 use Rattle.typst_edits.proofs.Edit.{among}

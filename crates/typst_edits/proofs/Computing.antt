@@ -1,40 +1,20 @@
 -- What the checker opens to compute the examples: all that a text is read by, and its spots, its log and its candidates.
 use lib.Utf8.{encode}
 use Rattle.std.specs.Str.{chars}
-use Rattle.typst_lines.specs.Place.{char_width}
-use Rattle.typst_tokens.specs.Sight.{position, near, far, stretch, width}
+use Rattle.typst_edits.proofs.Cited.{char_width, position, near, far, stretch, width, meaning_of, less, repeated, run, growing, nesting, ahead, ahead_asks, column_at, hand_at, hand_asks, raw_node, candidates_at, log, tree, whole, blocks_of_text, repeated_spots, growing_spots, nesting_spots, spots, call_spots, seconds, call_seconds, seconds_of_text, sign, line_ends, whitespace, shebang, line_comment, block_comment, comment_end, code_point, backslash, number_after, link, link_or_text, label, label_or_text, ref_marker, ref_or_text, raw, deeper, too_deep, skip_one, eat_making, eat, convert_and_eat, eat_if, close_if, unexpected, expected, expect, flush_trivia, within, node, node_with_trivia, note, read_block, grow, nest, of_mode, hash, slash, star, token, backtick, later_lines, inline_leaves, note_piece, markup_turn, markup_exprs, markup_run, markup, markup_is_empty, delimited, heading, item, term_item, markup_expr, content_block, direct_content, reference, embedded_end, embedded_expr, embedded, lost, call_lost, lost_of_text}
 use Rattle.typst_tokens.specs.Text.{text as text_token, text_from}
 use Rattle.typst_tokens.specs.Markup.{markup as markup_token, heading as heading_token, dot, marker_or_text, marker, hyphen, minus, emphasis, numbering}
-use Rattle.typst_tokens.specs.Common.{sign, line_ends, whitespace, shebang, line_comment, block_comment, comment_end}
-use Rattle.typst_tokens.specs.Escapes.{code_point, backslash}
-use Rattle.typst_tokens.specs.Characters.{number_after}
-use Rattle.typst_tokens.specs.Link.{link, link_or_text}
-use Rattle.typst_tokens.specs.Labels.{label}
-use Rattle.typst_tokens.specs.Names.{label_or_text, ref_marker, ref_or_text}
-use Rattle.typst_tokens.specs.Raw.{raw}
 use Rattle.typst_tokens.specs.Code.{code as code_token, single, less as less_token, with_equals, dots, dot as code_dot, equals, bang}
 use Rattle.typst_tokens.specs.Identifiers.{keyword_or_name, ident}
 use Rattle.typst_tokens.specs.Invalid.{foreign, invalid}
 use Rattle.typst_tokens.specs.Numbers.{suffixed, exponent_digits, signed_digits, exponent, fraction, decimal, dotted, in_base, zero_first, number_token}
 use Rattle.typst_tokens.specs.Strings.{string}
-use Rattle.typst_language.specs.Knot.{meaning_of}
-use Rattle.typst_language.specs.Depth.{deeper, too_deep, skip_one}
-use Rattle.typst_language.specs.Steps.{eat_making, eat, convert_and_eat, eat_if, close_if, unexpected, expected, expect, flush_trivia, within, node, node_with_trivia, note, read_block, grow, nest}
-use Rattle.typst_language.specs.Meaning.{less, repeated, run, growing, nesting}
-use Rattle.typst_language.specs.Hand.{ahead, ahead_asks, column_at, hand_at, hand_asks}
-use Rattle.typst_language.specs.Tokens.{of_mode, hash, slash, star, token, backtick}
-use Rattle.typst_language.specs.RawLines.{later_lines, inline_leaves}
-use Rattle.typst_language.specs.Raw.{raw_node}
 use Rattle.typst_language.specs.Expected.{expects, expect_identifier, seeing}
 use Rattle.typst_language.specs.Math.{primes as token_primes, atom as token_atom, by_class as token_by_class, single as token_single, math_from as token_math_from, math as token_math}
 use Rattle.typst_language.specs.Atoms.{cluster as token_cluster, number as token_number, text as token_text}
 use Rattle.typst_language.specs.MathNames.{after_name as token_after_name, named as token_named, name as token_name}
 use Rattle.typst_language.specs.Shorthands.{hyphen as sign_hyphen, tilde as sign_tilde, colon as sign_colon, equals as sign_equals, greater as sign_greater, less_short as sign_less_short, less_middle as sign_less_middle, less as sign_less, bar as sign_bar, bracket as sign_bracket, bang as sign_bang, dot as sign_dot, several as sign_several}
 use Rattle.typst_language.specs.ArgumentTokens.{spread_argument, named_argument, before_colon}
-use Rattle.typst_candidates.specs.Candidates.{candidates_at}
-use Rattle.typst_grammar.specs.Grammar.{log, tree, whole}
-use Rattle.typst_grammar.specs.Markup.{note_piece, markup_turn, markup_exprs, markup_run, markup, markup_is_empty, delimited, heading, item, term_item, markup_expr, content_block, direct_content, reference}
-use Rattle.typst_grammar.specs.Embedded.{embedded_end, embedded_expr, embedded}
 use Rattle.typst_grammar.specs.Sequences.{missing_break, statement_end, statement, code_turn, code_exprs, code, code_block}
 use Rattle.typst_grammar.specs.Arguments.{argument, argument_turn, argument_list, listed_arguments, content_turn, missing_arguments, begin_arguments, arguments}
 use Rattle.typst_grammar.specs.Statements.{field, show_rule, contextual}
@@ -51,10 +31,6 @@ use Rattle.typst_grammar.specs.Keys.{string_key}
 use Rattle.typst_grammar.specs.Parens.{as_group, readings, parens}
 use Rattle.typst_grammar.specs.Params.{defaulted as pattern_defaulted, param as pattern_param, param_turn as pattern_param_turn, params as pattern_params}
 use Rattle.typst_grammar.specs.Patterns.{bound_name as the_pattern_bound_name, pattern_leaf as pattern_pattern_leaf, sink as pattern_sink, name_and_colon as pattern_name_and_colon, key as pattern_key, key_or_pattern as pattern_key_or_pattern, part as pattern_part, destructuring_item as pattern_destructuring_item, destructuring_turn as pattern_destructuring_turn, destructuring as pattern_destructuring, pattern as pattern_pattern}
-use Rattle.typst_edits.specs.Lost.{lost, call_lost, lost_of_text}
-use Rattle.typst_edits.specs.Laws.{blocks_of_text}
-use Rattle.typst_edits.specs.Occurrences.{repeated_spots, growing_spots, nesting_spots, spots, call_spots}
-use Rattle.typst_edits.specs.Standing.{seconds, call_seconds, seconds_of_text}
 
 -- `unfolding computing` lets `refl` compute what is read of a text.
 unfoldable pub computing : Unit {0}

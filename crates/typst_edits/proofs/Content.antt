@@ -1,6 +1,5 @@
 -- A block that ends at the shifted end may stand where it stood: it gives one node alone, and the state after it follows from the reading before it.
-use Rattle.std.proofs.Common.{◌≡◌, ℕ, ◌+◌, false, Option, ap, ◌∙◌, arith, ◌⊎◌, inl, inr, ◌-◌, ◌<◌, ◌≤◌, List, [], ◌∷◌, ◌++◌, length, length-append, append-nil, None, refl, sym, subst, max, Bool}
-use Rattle.typst_edits.proofs.Words.{Place, moved, CharClasses, Block, Reading, SameIn, Ask, at_trivia, hand_at, Hand, len_at, token_at, Point, forgot, Trivia, gap_of, point_of, Shape, after_node, after_shape, Parser, ◌>>◌, ◌>>=◌, flushes, takes, Rules, meaning_of, level_of, Outcome, Meaning, Level, blockless, answered, joined, done, plain, same_mode, left, entered, hand_of, taken_node, run, before, inside, wrapped, bound, asked, grew, on_if, same_in-shift, same_in-first, same_in-second, same_in-sunk, moved-sum, less-none, Spot, after_spot, here_spot, Fits, block_head, ended, last_node, unit_at, level_spots, SyntaxMode, is_error, Tree, text_of, Call, itself, peek, eat_making, eat, node, does, next, scoped, gives, Sane, sane-run, sane-meaning, sane-plain, is_end, at_token, hand-again, token-ends, token-takes, content_block, markup_reading, code_block, code_reading, looked, marked, rules, Named, block_at, Rests}
+use Rattle.typst_edits.proofs.Cited.{◌≡◌, ℕ, ◌+◌, false, Option, ap, ◌∙◌, arith, ◌⊎◌, inl, inr, ◌-◌, ◌<◌, ◌≤◌, List, [], ◌∷◌, ◌++◌, length, length-append, append-nil, None, refl, sym, subst, max, Bool, Place, moved, CharClasses, Block, Reading, SameIn, Ask, at_trivia, hand_at, Hand, len_at, token_at, Point, forgot, Trivia, gap_of, point_of, Shape, after_node, after_shape, Parser, ◌>>◌, ◌>>=◌, flushes, takes, Rules, meaning_of, level_of, Outcome, Meaning, Level, blockless, answered, joined, done, plain, same_mode, left, entered, hand_of, taken_node, run, before, inside, wrapped, bound, asked, grew, on_if, same_in-shift, same_in-first, same_in-second, same_in-sunk, moved-sum, less-none, Spot, after_spot, here_spot, Fits, block_head, ended, last_node, unit_at, level_spots, SyntaxMode, is_error, Tree, text_of, Call, itself, peek, eat_making, eat, node, does, next, scoped, gives, Sane, sane-run, sane-meaning, sane-plain, is_end, at_token, hand-again, token-ends, token-takes, content_block, markup_reading, code_block, code_reading, looked, marked, rules, Named, block_at, Rests}
 use Rattle.typst_edits.proofs.Every.{Every}
 use Rattle.typst_edits.proofs.Known.{Reached, reached-run, reached-meaning, hand-stops-there, flushed-held, reached-joined, reached-grown, ahead-direct}
 use Rattle.typst_edits.proofs.Names.{Walks, in-any-shape, each-level}
@@ -172,9 +171,6 @@ module _ (l : Level) (d : (c : Call) → Sane (l.deeper c)) (e : (b : Block) →
     where
       taken-alike : (s t : Point) → Rests s.reading s.held t → s.held ≡ s.reading → t.held ≡ t.reading
       taken-alike s t h e = let g = subst (λ u. Rests s.reading u t) e h in reading-is t.held s.reading (one-of t.held.mode s.reading.mode g.mode) (one-of t.held.at_newline s.reading.at_newline g.rule) ∙ sym g.reading
-
-zero-back : {A : Type 0} (o : Outcome A) (n : ℕ) → n ≡ 0 → o.back ≡ 0 → n + o.back ≡ 0
-zero-back o n e f = omega arith
 
 -- what is enclosed becomes one node
 one-node : (b : Block) (closed : Bool) (n : ℕ) (o : Outcome Bool) → n ≡ 0 → Apart o → Alone (wrapped (λ _. enclosing b closed) n o)

@@ -1,8 +1,5 @@
 -- After more pieces of a run the next token begins further on.
-use Rattle.std.proofs.Common.{◌≡◌, ℕ, suc, ◌+◌, ◌<◌, ◌≤◌, Bool, true, List, length, take, ap, sym, arith, ◌-◌, false, ◌&&◌, ◌||◌, ◌==◌, eq-eqb, [], ◌∷◌, ◌++◌, map, append_assoc, Some, refl, ◌∙◌, subst}
-use Rattle.typst_edits.proofs.Words.{both_ways, CharClasses, Place, moved, width, gap_of, point_of, Point, peek, Meaning, run, sane-at, ahead-left, moved-sum, markup_turn, rules, max_depth, start_of, log, bracket, run_at, opened_at, inner_end, text_run, token_byte, piece_at, lead, cut_after, of_level, Numbered, SaysOf, AllGo, End, end_at, start, made, end_of, turn_of, first_of, first_end, Spot, eqb-true, eqb-false, and_right, Block, Mark, Note, opens_content, starts, up_to_end, after_first, cuts_in, is_closing, is_among, Among, Every, blocks_of_text, goes, OpensApartLaw, listed, if-true, if-false, Run, top, read_as, token_after, root_run, IsRun, is_text_run, is_block_run, Sequence}
-use Rattle.typst_edits.specs.NumberedNotes.{CutsLaw, InnerCutsLaw}
-use Rattle.std.proofs.lemmas.Bool.{or_right}
+use Rattle.typst_edits.proofs.Cited.{◌≡◌, ℕ, suc, ◌+◌, ◌<◌, ◌≤◌, Bool, true, List, length, take, ap, sym, arith, ◌-◌, false, ◌&&◌, ◌||◌, ◌==◌, eq-eqb, [], ◌∷◌, ◌++◌, map, append_assoc, Some, refl, ◌∙◌, subst, both_ways, CharClasses, Place, moved, width, gap_of, point_of, Point, peek, Meaning, run, sane-at, ahead-left, moved-sum, markup_turn, rules, max_depth, start_of, log, bracket, run_at, opened_at, inner_end, text_run, token_byte, piece_at, lead, cut_after, of_level, Numbered, SaysOf, AllGo, End, end_at, start, made, end_of, turn_of, first_of, first_end, Spot, eqb-true, eqb-false, and_right, Block, Mark, Note, opens_content, starts, up_to_end, after_first, cuts_in, is_closing, is_among, Among, Every, blocks_of_text, goes, OpensApartLaw, listed, if-true, if-false, Run, top, read_as, token_after, root_run, IsRun, is_text_run, is_block_run, Sequence, CutsLaw, InnerCutsLaw, or_right, lt_of_le-ne}
 use Rattle.typst_candidates.specs.Units.{is_piece}
 use Rattle.typst_edits.proofs.BlockRuns.{within, sane as in-sane}
 use Rattle.typst_edits.proofs.Joint.{leads-of}
@@ -13,7 +10,6 @@ use Rattle.typst_edits.proofs.NumberedNotes.{numbered-inner-law, go-fewer, go-ne
 pub use Rattle.typst_grammar.proofs.Fine.{and-both as both-on}
 use Rattle.typst_language.specs.declared.calls.Block.TheVariants as block
 use Rattle.typst_language.specs.declared.calls.Mark.TheVariants as mark
-use Rattle.std.proofs.Math.Arith.{lt_of_le-ne}
 use Rattle.typst_edits.proofs.Widths.{take-longer, take-more}
 
 pub cut-token : (i : ℕ) (e : End (Bool × ℕ)) → 0 < i → cut_after i e ≡ e.taken + gap_of e.state.known

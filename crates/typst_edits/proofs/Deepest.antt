@@ -1,8 +1,6 @@
 -- A content block in which no level is left notes nothing; so if notes say that pieces stand in a block, a level is left there.
-use Rattle.std.proofs.Common.{◌≡◌, subst, ℕ, ◌-◌, ◌==◌, eq-eqb, true, false, ◌&&◌, List, [], ◌∷◌, ◌++◌, take, Some, None, refl, ap, sym, ◌∙◌, arith}
-use Rattle.typst_edits.proofs.Words.{is_deepest, ◌>>=◌, close_if, encloses, same, itself, flush_trivia, nil_from_length, Place, moved, CharClasses, width, Mark, too_deep, meaning_of, Outcome, Level, blockless, start_point, run, Point, point_of, peek, node, node_with_trivia, Parser, ◌>>◌, takes, gives, does, scoped, opens_content, starts, up_to_end, after_first, cuts_in, is_closing, ends_block, markup_is_empty, markup_run, content_block, markup_reading, rules, max_depth, start_of, whole, log, Guarded, guarded-deep, Among, blocks_of_text, block_at, Named, OpensApartLaw, listed, notes_in, Spot, ended, unit_at, none-some, if-true}
+use Rattle.typst_edits.proofs.Cited.{◌≡◌, subst, ℕ, ◌-◌, ◌==◌, eq-eqb, true, false, ◌&&◌, List, [], ◌∷◌, ◌++◌, take, Some, None, refl, ap, sym, ◌∙◌, arith, is_deepest, ◌>>=◌, close_if, encloses, same, itself, flush_trivia, nil_from_length, Place, moved, CharClasses, width, Mark, too_deep, meaning_of, Outcome, Level, blockless, start_point, run, Point, point_of, peek, node, node_with_trivia, Parser, ◌>>◌, takes, gives, does, scoped, opens_content, starts, up_to_end, after_first, cuts_in, is_closing, ends_block, markup_is_empty, markup_run, content_block, markup_reading, rules, max_depth, start_of, whole, log, Guarded, guarded-deep, Among, blocks_of_text, block_at, Named, OpensApartLaw, listed, notes_in, Spot, ended, unit_at, none-some, if-true, guarded-close, guarded-node}
 use Rattle.typst_kinds.specs.declared.kind.SyntaxKind.TheVariants as kind
-use Rattle.typst_grammar.proofs.Guarded.{guarded-close, guarded-node}
 use Rattle.typst_language.specs.declared.calls.Block.TheVariants as block
 use Rattle.typst_language.specs.declared.calls.Mark.TheVariants as mark
 use Rattle.typst_edits.proofs.Edit.{among}

@@ -1,9 +1,7 @@
 -- A stretch of a text replaced: what ends before it and what begins after it shows the same.
-use Rattle.std.proofs.Common.{◌≡◌, ℕ, zero, suc, ◌+◌, ◌≤◌, List, [], ◌∷◌, ◌++◌, length, take, Some, refl, ap, sym, ◌∙◌, arith, subst}
-use Rattle.typst_edits.proofs.Words.{Tree, forest, moved, Look, Ask, SameIn, looked, marked, Outcome, moved-sum, Deep, fill, Hole, plug, path_in, path_of, under, Spot, Fits, unit_at, Among, text_with, AllEndBy, AllBeginIn, Passes, alter, replaced, put, this, that}
+use Rattle.typst_edits.proofs.Cited.{◌≡◌, ℕ, zero, suc, ◌+◌, ◌≤◌, List, [], ◌∷◌, ◌++◌, length, take, Some, refl, ap, sym, ◌∙◌, arith, subst, Tree, forest, moved, Look, Ask, SameIn, looked, marked, Outcome, moved-sum, Deep, fill, Hole, plug, path_in, path_of, under, Spot, Fits, unit_at, Among, text_with, AllEndBy, AllBeginIn, Passes, alter, replaced, put, this, that, Edited}
 use Rattle.typst_tokens.specs.Reader.{Agree, marked as ended_by_mark}
 use Rattle.typst_edits.specs.Hole.Deep.{bare}
-use Rattle.typst_edits.specs.Edit.{Edited}
 pub use Rattle.typst_candidates.proofs.Edges.{trees_forest as trees-of}
 use Rattle.typst_edits.proofs.Every.{Every}
 use Rattle.typst_edits.proofs.Spots.{Edits, Lawful, same_in-at}

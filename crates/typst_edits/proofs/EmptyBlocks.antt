@@ -1,7 +1,5 @@
 -- Content blocks without an expression have one note between their two, and look only at the token after their trivia.
-use Rattle.std.proofs.Common.{◌≡◌, ℕ, suc, ◌+◌, ◌-◌, Bool, true, false, ◌&&◌, ◌==◌, if◌then◌else◌, List, [], ◌∷◌, ◌++◌, length, Some, refl, ap, sym, ◌∙◌, subst, arith}
-use Rattle.typst_edits.proofs.Words.{SyntaxKind, SyntaxMode, same, is_error, Place, moved, CharClasses, position, text_of, Mark, Note, State, Ask, shift, looked, marked, Hand, as_at_hand, hand_at, token_at, Trivia, Point, point_of, state_of, after_node, itself, flush_trivia, close_if, takes, Outcome, Level, plain, joined, repeated, hand_of, hand_asks_of, asked, entered, renewed, taken_node, flushed_state, done, run, ends, ends_block, markup_reading, max_depth, start_of, log, inner, look_again, bracket, inner_lead, inner_run, inner_tail, inner_close, run_at, Every, onwards, passed, block_at, blocks_of_text, Sequence, turn_of, lowered, unit_at, notes_in, on_both, IsEmpty}
-use Rattle.typst_edits.specs.EmptyRuns.{EmptyBlockLaw}
+use Rattle.typst_edits.proofs.Cited.{◌≡◌, ℕ, suc, ◌+◌, ◌-◌, Bool, true, false, ◌&&◌, ◌==◌, if◌then◌else◌, List, [], ◌∷◌, ◌++◌, length, Some, refl, ap, sym, ◌∙◌, subst, arith, SyntaxKind, SyntaxMode, same, is_error, Place, moved, CharClasses, position, text_of, Mark, Note, State, Ask, shift, looked, marked, Hand, as_at_hand, hand_at, token_at, Trivia, Point, point_of, state_of, after_node, itself, flush_trivia, close_if, takes, Outcome, Level, plain, joined, repeated, hand_of, hand_asks_of, asked, entered, renewed, taken_node, flushed_state, done, run, ends, ends_block, markup_reading, max_depth, start_of, log, inner, look_again, bracket, inner_lead, inner_run, inner_tail, inner_close, run_at, Every, onwards, passed, block_at, blocks_of_text, Sequence, turn_of, lowered, unit_at, notes_in, on_both, IsEmpty, EmptyBlockLaw}
 use Rattle.typst_kinds.specs.declared.kind.SyntaxKind.TheVariants as kind
 use Rattle.typst_kinds.specs.declared.mode.SyntaxMode.TheVariants as mode
 use Rattle.typst_language.specs.declared.calls.Block.TheVariants as block

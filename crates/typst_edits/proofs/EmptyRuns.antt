@@ -1,8 +1,5 @@
 -- Runs without an expression: after their trivia only the token at their end is asked for.
-use Rattle.std.proofs.Common.{◌≡◌, ℕ, ◌+◌, max, min, Bool, true, false, ◌&&◌, ◌==◌, if◌then◌else◌, nat_lt, List, [], ◌∷◌, ◌++◌, Some, refl, ap, sym, ◌∙◌, subst, arith}
-use Rattle.std.proofs.Math.Bool.{and-false}
-use Rattle.typst_edits.proofs.Words.{SyntaxKind, same, Place, moved, CharClasses, Look, look, position, far, near, token, Mark, Note, State, Ask, shift, looked, marked, is_end, AtHand, as_at_hand, hand_at, hand_asks, column_look, no_log, logged, Trivia, Point, state_of, flush_trivia, Outcome, Level, plain, joined, as_last, repeated, hand_of, hand_asks_of, asked, flushed_state, run, ends, markup_turn, markup_reading, level_at, max_depth, start_of, parsed, log, text_with, AllBeginIn, Every, onwards, passed, text_run, asked_past, lead, piece_at, tail, start, Sequence, hand-ends, IsEmpty, if-true, if-false}
-use Rattle.typst_edits.specs.EmptyRuns.{EmptyTextLaw}
+use Rattle.typst_edits.proofs.Cited.{◌≡◌, ℕ, ◌+◌, max, min, Bool, true, false, ◌&&◌, ◌==◌, if◌then◌else◌, nat_lt, List, [], ◌∷◌, ◌++◌, Some, refl, ap, sym, ◌∙◌, subst, arith, and-false, SyntaxKind, same, Place, moved, CharClasses, Look, look, position, far, near, token, Mark, Note, State, Ask, shift, looked, marked, is_end, AtHand, as_at_hand, hand_at, hand_asks, column_look, no_log, logged, Trivia, Point, state_of, flush_trivia, Outcome, Level, plain, joined, as_last, repeated, hand_of, hand_asks_of, asked, flushed_state, run, ends, markup_turn, markup_reading, level_at, max_depth, start_of, parsed, log, text_with, AllBeginIn, Every, onwards, passed, text_run, asked_past, lead, piece_at, tail, start, Sequence, hand-ends, IsEmpty, if-true, if-false, EmptyTextLaw}
 use Rattle.typst_kinds.specs.declared.kind.SyntaxKind.TheVariants as kind
 use Rattle.typst_kinds.specs.declared.mode.SyntaxMode.TheVariants as mode
 use Rattle.typst_language.specs.declared.calls.Mark.TheVariants as mark

@@ -1,12 +1,9 @@
 -- Notes among the entries of records, by number: a block's two, and what the number of a note says of looks.
-use Rattle.std.proofs.Common.{◌≡◌, ℕ, suc, ◌+◌, ◌-◌, ◌<◌, ◌≤◌, ◌==◌, eq-eqb, Bool, true, false, ◌&&◌, if◌then◌else◌, List, [], ◌∷◌, ◌++◌, length, drop, Some, refl, ap, sym, ◌∙◌, arith, nat_le, None, subst}
-use Rattle.typst_edits.proofs.Words.{and_parts, eqb-true, false_from_ne_true, if-false, Block, Mark, Note, State, entry_kind_of, entry_of, entries_by, last_start, opening_of, IsRising, AllEnd, AllBegin, highest, lowest, nat_tests, CharClasses, Log, Entry, units_of, Units, units_by, front_of, rear_of, log, InOrderLaw, listed, front-law, rear-law}
+use Rattle.typst_edits.proofs.Cited.{◌≡◌, ℕ, suc, ◌+◌, ◌-◌, ◌<◌, ◌≤◌, ◌==◌, eq-eqb, Bool, true, false, ◌&&◌, if◌then◌else◌, List, [], ◌∷◌, ◌++◌, length, drop, Some, refl, ap, sym, ◌∙◌, arith, nat_le, None, subst, and_parts, eqb-true, false_from_ne_true, if-false, Block, Mark, Note, State, entry_kind_of, entry_of, entries_by, last_start, opening_of, IsRising, AllEnd, AllBegin, highest, lowest, nat_tests, CharClasses, Log, Entry, units_of, Units, units_by, front_of, rear_of, log, InOrderLaw, listed, front-law, rear-law, front_count, rear_count, token-of}
 use Rattle.typst_candidates.specs.Records.{is_opening}
 use Rattle.std.specs.List.{slice_get}
 use Rattle.typst_language.specs.declared.calls.Mark.TheVariants as mark
 use Rattle.typst_edits.proofs.Walk.{first-if as if-on}
-use Rattle.typst_edits.specs.PiecesTest.{front_count, rear_count}
-use Rattle.typst_candidates.proofs.Nested.{token-of}
 pub use Rattle.std.proofs.lemmas.Option.{same_Some as some-number}
 
 -- ---- the first block that begins at a byte

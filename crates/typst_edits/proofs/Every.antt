@@ -1,6 +1,5 @@
 -- What holds of each element of a list, and small facts of lists and numbers.
-use Rattle.std.proofs.Common.{◌≡◌, ℕ, suc, ◌<◌, ◌≤◌, Bool, true, false, if◌then◌else◌, List, [], ◌∷◌, ◌++◌, map, Option, None, Some, refl, arith, le_antisymm, lt_of_not-le}
-use Rattle.typst_edits.proofs.Words.{flat_map}
+use Rattle.typst_edits.proofs.Cited.{◌≡◌, ℕ, suc, ◌<◌, ◌≤◌, Bool, true, false, if◌then◌else◌, List, [], ◌∷◌, ◌++◌, map, Option, None, Some, refl, arith, le_antisymm, lt_of_not-le, flat_map}
 pub use Rattle.typst_edits.specs.Every.{Every}
 
 pub every-append : {X : Type 0} (P : X → Type 0) (xs ys : List X) → Every P xs → Every P ys → Every P (xs ++ ys)

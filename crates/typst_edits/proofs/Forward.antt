@@ -1,26 +1,14 @@
 -- Trivia look only ahead, and so does a token at which a content block's run ends.
-use Rattle.std.proofs.Common.{◌≡◌, ◌+◌, ℕ, zero, suc, Bool, true, false, not, ◌||◌, ◌&&◌, ◌==◌, nat_lt, if◌then◌else◌, List, [], ◌∷◌, length, slice_get, Some, None, refl, ap, sym, ◌∙◌, subst, arith}
-use Rattle.typst_edits.proofs.Words.{and_parts, SyntaxKind, is_trivia, Place, moved, CharClasses, Look, look, no_look, token, Token, near, stretch, Ask, shift, looked, marked, token_at, len_at, at_trivia, Ahead, ahead_by, ahead, asks_by, ahead_asks, hand_at, hand_asks, Trivia, gap_of, moved-sum, on_both, ends_block, AllFrom, lead, codes}
+use Rattle.typst_edits.proofs.Cited.{◌≡◌, ◌+◌, ℕ, zero, suc, Bool, true, false, not, ◌||◌, ◌&&◌, ◌==◌, nat_lt, if◌then◌else◌, List, [], ◌∷◌, length, slice_get, Some, None, refl, ap, sym, ◌∙◌, subst, arith, and_parts, SyntaxKind, is_trivia, Place, moved, CharClasses, Look, look, no_look, token, Token, near, stretch, Ask, shift, looked, marked, token_at, len_at, at_trivia, Ahead, ahead_by, ahead, asks_by, ahead_asks, hand_at, hand_asks, Trivia, gap_of, moved-sum, on_both, ends_block, AllFrom, lead, codes, is_none, Reader, Turn, from_before, skip_look, place, spanned, span_look, at_word, exec, of_mode, hash, slash, star, backtick, is_space, is_u64, is_code_point, code_point, backslash, whitespace, shebang, line_comment, block_comment, comment_end, comment_step, in_comment, line_ends, sign, text, text_from, in_link, link_end, link, link_or_text, label_or_text, ref_marker, ref_or_text, label, in_raw, raw_end, raw}
 use Rattle.typst_lines.specs.Place.{scout, passes, run, past}
-use Rattle.typst_tokens.specs.Reader.{Reader, Turn, from_before, skip_look, place, spanned, span_look, at_word, exec}
-use Rattle.typst_language.specs.Tokens.{of_mode, hash, slash, star, backtick}
-use Rattle.std.specs.Prelude.{is_none}
 use Rattle.std.specs.Char.{is_ascii_digit, is_whitespace}
 use Rattle.typst_kinds.specs.declared.kind.SyntaxKind.TheVariants as kind
 use Rattle.typst_kinds.specs.declared.mode.SyntaxMode.TheVariants.{Markup}
 use Rattle.typst_lines.specs.Sets.{among}
-use Rattle.typst_tokens.specs.Characters.{is_space, is_u64, is_code_point}
-use Rattle.typst_tokens.specs.Escapes.{code_point, backslash}
-use Rattle.typst_tokens.specs.Common.{whitespace, shebang, line_comment, block_comment, comment_end, comment_step, in_comment, line_ends, sign}
 use Rattle.typst_tokens.specs.Markup.{dot, marker_or_text, marker, hyphen, minus, emphasis, heading, numbering, markup}
 use Rattle.typst_tokens.specs.Memory.Memory.{blank, comment, fence, brackets, quoted}
 use Rattle.typst_tokens.specs.Reader.Turn.{leave, last, go}
 use Rattle.typst_tokens.specs.Reader.Reader.{answer, peek, skip}
-use Rattle.typst_tokens.specs.Text.{text, text_from}
-use Rattle.typst_tokens.specs.Link.{in_link, link_end, link, link_or_text}
-use Rattle.typst_tokens.specs.Names.{label_or_text, ref_marker, ref_or_text}
-use Rattle.typst_tokens.specs.Labels.{label}
-use Rattle.typst_tokens.specs.Raw.{in_raw, raw_end, raw}
 use Rattle.typst_lines.specs.Identifiers.{is_id_continue}
 use Rattle.typst_lines.specs.Labels.{is_name}
 use Rattle.typst_tokens.specs.Token.{plain}

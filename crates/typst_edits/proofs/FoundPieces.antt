@@ -1,10 +1,8 @@
 -- What the entries of notes say of the pieces of a run, whose notes stand among others, nested in each other.
-use Rattle.std.proofs.Common.{◌≡◌, ℕ, suc, ◌+◌, ◌<◌, ◌==◌, ne_eqb, eq-eqb, Bool, true, false, ◌&&◌, if◌then◌else◌, List, [], ◌∷◌, ◌++◌, length, take, drop, length-append, append_assoc, Option, Some, None, refl, ap, sym, ◌∙◌, subst, arith, ◌≤◌}
-use Rattle.typst_edits.proofs.Words.{Mark, Note, EntryKind, closing_of, entry_kind_of, entries_by, last_start, count_of, entry_of, Nested, IsRising, closing-found, Every, of_level, Numbered, cut_after, SaysOf, width, Entry, End, IsLast, BeginsAt, SaysPiece, if-true, if-false}
+use Rattle.typst_edits.proofs.Cited.{◌≡◌, ℕ, suc, ◌+◌, ◌<◌, ◌==◌, ne_eqb, eq-eqb, Bool, true, false, ◌&&◌, if◌then◌else◌, List, [], ◌∷◌, ◌++◌, length, take, drop, length-append, append_assoc, Option, Some, None, refl, ap, sym, ◌∙◌, subst, arith, ◌≤◌, Mark, Note, EntryKind, closing_of, entry_kind_of, entries_by, last_start, count_of, entry_of, Nested, IsRising, closing-found, Every, of_level, Numbered, cut_after, SaysOf, width, Entry, End, IsLast, BeginsAt, SaysPiece, if-true, if-false, token-of}
 use Rattle.typst_candidates.specs.Cursors.{leads, inside_after, piece_of, first_piece}
 use Rattle.typst_candidates.specs.Entries.{end_of}
 use Rattle.typst_candidates.specs.Nested.{none, piece, block}
-use Rattle.typst_candidates.proofs.Nested.{token-of}
 use Rattle.typst_edits.proofs.Every.{first_or}
 use Rattle.typst_edits.proofs.InnerNumbers.{behind-first}
 use Rattle.typst_edits.proofs.NestedInner.{longer}

@@ -1,13 +1,8 @@
 -- Nodes of which the first isn't empty, and what they become.
-use Rattle.std.proofs.Common.{◌≡◌, ℕ, zero, suc, ◌-◌, ◌<◌, Bool, true, false, List, [], ◌∷◌, ◌++◌, length, take, drop, length-append, None, refl, ap, sym, ◌∙◌, subst, arith, ◌≤◌, length-take}
-use Rattle.typst_edits.proofs.Words.{is_error, hint_with, Tree, text_of, forest, inner_of, error_of, with_kind, made_error, advised, Point, hinted, NodeChange, Shape, shaped, first_changed, after_shape, after_node, without_parens, Making, after_change, stays, turns_wrong, is_not, renamed, unparened, keeps, holds, lacks, warns, fails, less, taken_node, texts, texts-one, texts-first, text-shaped, same-hinted, Place, moved, CharClasses, Hand, text_ahead, token_node, on_both, made_expected}
+use Rattle.typst_edits.proofs.Cited.{◌≡◌, ℕ, zero, suc, ◌-◌, ◌<◌, Bool, true, false, List, [], ◌∷◌, ◌++◌, length, take, drop, length-append, None, refl, ap, sym, ◌∙◌, subst, arith, ◌≤◌, length-take, is_error, hint_with, Tree, text_of, forest, inner_of, error_of, with_kind, made_error, advised, Point, hinted, NodeChange, Shape, shaped, first_changed, after_shape, after_node, without_parens, Making, after_change, stays, turns_wrong, is_not, renamed, unparened, keeps, holds, lacks, warns, fails, less, taken_node, texts, texts-one, texts-first, text-shaped, same-hinted, Place, moved, CharClasses, Hand, text_ahead, token_node, on_both, made_expected, count_empty, text-made, changed-long, length-le-encodes}
 use Rattle.typst_tree.specs.Diagnostic.{warning_with}
 use Rattle.typst_tree.specs.Tree.{joined as text_joined, remarked}
-use Rattle.typst_language.specs.Shape.{count_empty}
-use Rattle.typst_language.proofs.Leaves.{text-made}
-use Rattle.std.proofs.lemmas.Str.{length-le-encodes}
 use Rattle.typst_language.proofs.TokenTexts.{text-token}
-use Rattle.typst_language.proofs.Backs.{changed-long}
 
 -- ---- nodes
 

@@ -1,9 +1,6 @@
 -- A property of what is read and of its blocks, those that count and those of second readings: it holds of the whole if it holds of each part.
-use Rattle.std.proofs.Common.{◌≡◌, ℕ, zero, suc, ◌-◌, Bool, true, false, ◌&&◌, if◌then◌else◌, nat_lt, List, [], ◌++◌, map, Option, refl, subst, arith}
-use Rattle.typst_edits.proofs.Words.{flat_map, SyntaxKind, CharClasses, Place, moved, Block, Reading, Call, Answer, Point, forgot, Shape, Op, Begin, Parser, flushes, gives, does, next, pick, repeat, wraps, grows, nests, scoped, either, calls, block, Rules, meaning_of, level_of, Outcome, Meaning, Level, plain, joined, answered, followed, turns, as_last, bound, repeated, before, reshaped, wrapped, grown, grew, is_more, growths, growing, nestings, nesting, bounded, given_up, entered, left_to, deeper_by_one, done, run, shape_by, op_by, PlainBy, Spots, joined_spots, goes, last_spot, turns_spots, repeated_spots, reshaped_spot, wrapped_spot, grown_spot, growths_spots, growing_spots, nestings_spots, nesting_spots, scoped_spot, bounded_spots, spots, call_spots, block_spots, level_spots, Spot, after_spot, sunk_spot, closed_spot, seconds, call_seconds, block_seconds, level_seconds}
+use Rattle.typst_edits.proofs.Cited.{◌≡◌, ℕ, zero, suc, ◌-◌, Bool, true, false, ◌&&◌, if◌then◌else◌, nat_lt, List, [], ◌++◌, map, Option, refl, subst, arith, flat_map, SyntaxKind, CharClasses, Place, moved, Block, Reading, Call, Answer, Point, forgot, Shape, Op, Begin, Parser, flushes, gives, does, next, pick, repeat, wraps, grows, nests, scoped, either, calls, block, Rules, meaning_of, level_of, Outcome, Meaning, Level, plain, joined, answered, followed, turns, as_last, bound, repeated, before, reshaped, wrapped, grown, grew, is_more, growths, growing, nestings, nesting, bounded, given_up, entered, left_to, deeper_by_one, done, run, shape_by, op_by, PlainBy, Spots, joined_spots, goes, last_spot, turns_spots, repeated_spots, reshaped_spot, wrapped_spot, grown_spot, growths_spots, growing_spots, nestings_spots, nesting_spots, scoped_spot, bounded_spots, spots, call_spots, block_spots, level_spots, Spot, after_spot, sunk_spot, closed_spot, seconds, call_seconds, block_seconds, level_seconds, Seen, if_by, gives-run}
 use Rattle.typst_language.specs.Calls.{no_answer}
-use Rattle.typst_language.specs.Shape.{Seen}
-use Rattle.typst_grammar.proofs.FineRuns.{if_by, gives-run}
 
 -- by what is known where a reading begins, and of what it reads; if T, of parsers that make nodes of these kinds alone
 module _ (At : Place → Point → Type 0) (Gone : (A : Type 0) → Place → Point → Outcome A → Type 0) (R : (A : Type 0) → ℕ → Place → Point → Outcome A → List (Spot A) → List (Spot A) → Type 0) (T : Type 0) (allows : SyntaxKind → Bool) where

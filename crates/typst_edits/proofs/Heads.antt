@@ -1,6 +1,5 @@
 -- An expression that isn't expected gives one error after the trivia, and only such an expression takes back the empty errors before it.
-use Rattle.std.proofs.Common.{◌≡◌, ℕ, zero, suc, ◌<◌, ◌==◌, Bool, true, false, ◌&&◌, nat_lt, List, [], ◌∷◌, ◌++◌, length, drop, length-append, append_assoc, Some, None, refl, ap, sym, ◌∙◌, subst, arith, ◌+◌}
-use Rattle.typst_edits.proofs.Words.{lt-ltb, is_error, SyntaxKind, Place, moved, CharClasses, hint_with, Tree, text_of, error_of, made_error, advised, all_advised, MarkupExpr, Reading, Ask, SameIn, shift, anywhere, too_deep, deeper, is_end, AtHand, as_at_hand, hand_at, Hand, meaning_of, Trivia, Point, pending, point_of, hinted, surprise, peek, eat_making, flush_trivia, note, unexpected, Parser, ◌>>=◌, ◌>>◌, takes, gives, does, next, pick, repeat, calls, Outcome, Meaning, Level, plain, less, standing, joined, repeated, hand_of, hand_asks_of, taken_node, run, sane-run, less-none, moved-sum, on_both, on_if, ends, ends_block, note_piece, markup_turn, markup_head, markup_by, markup_expr, rules, level_at, max_depth, Tidy, Backs, together, inner_run, inner, bracket, inner_lead, run_at, EndsBefore, minds_at, first_place, begins_wrong, after_known, minds, text_run, onwards_at, goes, made, AllGo, end_of, End, asks_of, lead, pieces, end_at, Sequence, turn_of, first_of, first_end, then_of, then_end, then_place, hand-frame, same_in-shift, same_in-first, same_in-second, text_with, AllEndBy, Spot, hinted-append, MarkupHead, both_ways, false_from_ne_true, Run, read_as, top, IsRun, is_text_run, is_block_run, Before, PassesJoint}
+use Rattle.typst_edits.proofs.Cited.{◌≡◌, ℕ, zero, suc, ◌<◌, ◌==◌, Bool, true, false, ◌&&◌, nat_lt, List, [], ◌∷◌, ◌++◌, length, drop, length-append, append_assoc, Some, None, refl, ap, sym, ◌∙◌, subst, arith, ◌+◌, lt-ltb, is_error, SyntaxKind, Place, moved, CharClasses, hint_with, Tree, text_of, error_of, made_error, advised, all_advised, MarkupExpr, Reading, Ask, SameIn, shift, anywhere, too_deep, deeper, is_end, AtHand, as_at_hand, hand_at, Hand, meaning_of, Trivia, Point, pending, point_of, hinted, surprise, peek, eat_making, flush_trivia, note, unexpected, Parser, ◌>>=◌, ◌>>◌, takes, gives, does, next, pick, repeat, calls, Outcome, Meaning, Level, plain, less, standing, joined, repeated, hand_of, hand_asks_of, taken_node, run, sane-run, less-none, moved-sum, on_both, on_if, ends, ends_block, note_piece, markup_turn, markup_head, markup_by, markup_expr, rules, level_at, max_depth, Tidy, Backs, together, inner_run, inner, bracket, inner_lead, run_at, EndsBefore, minds_at, first_place, begins_wrong, after_known, minds, text_run, onwards_at, goes, made, AllGo, end_of, End, asks_of, lead, pieces, end_at, Sequence, turn_of, first_of, first_end, then_of, then_end, then_place, hand-frame, same_in-shift, same_in-first, same_in-second, text_with, AllEndBy, Spot, hinted-append, MarkupHead, both_ways, false_from_ne_true, Run, read_as, top, IsRun, is_text_run, is_block_run, Before, PassesJoint}
 use Rattle.typst_edits.specs.Frame.{inner as block_inner}
 use Rattle.typst_edits.specs.Heads.{HeadLaw, MeetsLaw, InnerMeetsLaw, NoneBackLaw, NoneAfterLaw}
 use Rattle.typst_edits.proofs.Boundary.{KnownAt, turn-goes, first-of, going-on, known-made, made-ends, turn-ends}

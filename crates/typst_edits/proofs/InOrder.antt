@@ -1,8 +1,6 @@
 -- Marks stand in order by their tokens: each at the token of the one before it, or after that.
-use Rattle.std.proofs.Common.{◌≡◌, ℕ, zero, suc, ◌+◌, ◌≤◌, ◌==◌, max, min, Bool, true, false, ◌&&◌, nat_lt, List, [], ◌∷◌, take, Option, Some, refl, ap, sym, ◌∙◌, subst, arith, inl, inr}
-use Rattle.typst_edits.proofs.Words.{same, SyntaxKind, Place, moved, CharClasses, width, position, far, near, IsRising, Block, Call, MarkupExpr, Mark, Reading, Ask, shift, looked, marked, deeper, is_end, too_deep, hand_at, meaning_of, level_of, blocks_of, Trivia, Point, forgot, gap_of, Shape, becomes, itself, peek, node, node_with_trivia, note, flush_trivia, close_if, Parser, ◌>>◌, at_token, takes, flushes, marks, is_deepest, gives, does, next, repeat, wraps, scoped, Outcome, Meaning, Level, plain, joined, turns, as_last, bound, repeated, blockless, entered, hand_of, hand_asks_of, start_point, done, run, moved-sum, on_both, on_if, rules, production, max_depth, start_of, whole, parsed, log, block_production, level_at, ends, ends_block, note_piece, markup_turn, markup_run, markup_is_empty, markup_reading, content_block, code_block, Guarded, guarded-deep, guarded-production, guarded-inside-code, InOrderLaw, cases_Bool, if-true}
+use Rattle.typst_edits.proofs.Cited.{◌≡◌, ℕ, zero, suc, ◌+◌, ◌≤◌, ◌==◌, max, min, Bool, true, false, ◌&&◌, nat_lt, List, [], ◌∷◌, take, Option, Some, refl, ap, sym, ◌∙◌, subst, arith, inl, inr, same, SyntaxKind, Place, moved, CharClasses, width, position, far, near, IsRising, Block, Call, MarkupExpr, Mark, Reading, Ask, shift, looked, marked, deeper, is_end, too_deep, hand_at, meaning_of, level_of, blocks_of, Trivia, Point, forgot, gap_of, Shape, becomes, itself, peek, node, node_with_trivia, note, flush_trivia, close_if, Parser, ◌>>◌, at_token, takes, flushes, marks, is_deepest, gives, does, next, repeat, wraps, scoped, Outcome, Meaning, Level, plain, joined, turns, as_last, bound, repeated, blockless, entered, hand_of, hand_asks_of, start_point, done, run, moved-sum, on_both, on_if, rules, production, max_depth, start_of, whole, parsed, log, block_production, level_at, ends, ends_block, note_piece, markup_turn, markup_run, markup_is_empty, markup_reading, content_block, code_block, Guarded, guarded-deep, guarded-production, guarded-inside-code, InOrderLaw, cases_Bool, if-true, guarded-close, guarded-deeper, guarded-node}
 use Rattle.typst_language.specs.Syntax.Begin.{at_trivia}
-use Rattle.typst_grammar.proofs.Guarded.{guarded-close, guarded-deeper, guarded-node}
 use Rattle.typst_kinds.specs.declared.kind.SyntaxKind.TheVariants as kind
 use Rattle.typst_language.specs.declared.calls.Block.TheVariants as block
 use Rattle.typst_language.specs.declared.calls.Mark.TheVariants as mark

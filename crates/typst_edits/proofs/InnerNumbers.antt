@@ -1,7 +1,5 @@
 -- The number of a note where pieces of a content block's run end.
-use Rattle.std.proofs.Common.{◌≡◌, ℕ, suc, ◌+◌, ◌-◌, ◌<◌, ◌≤◌, ◌==◌, eq-eqb, Bool, true, false, List, [], ◌∷◌, ◌++◌, length, take, length-append, append_assoc, ap, sym, ◌∙◌, subst, arith, drop, pos_of_ne-zero}
-use Rattle.typst_edits.proofs.Words.{Place, moved, CharClasses, width, Note, Hand, Point, point_of, itself, peek, takes, does, entered, hand_of, asked, run, sane-meaning, sane-plain, ahead-left, ends_block, markup_turn, markup_reading, rules, max_depth, start_of, log, inner, look_first, look_again, bracket, run_at, opened_at, Among, inner_end, blocks_of_text, of_level, Numbered, SaysOf, listed, AllGo, turn_of, first_of, first_end, Spot, unit_at, Rising, if-true}
-use Rattle.typst_edits.specs.NumberedNotes.{InnerNumberLaw}
+use Rattle.typst_edits.proofs.Cited.{◌≡◌, ℕ, suc, ◌+◌, ◌-◌, ◌<◌, ◌≤◌, ◌==◌, eq-eqb, Bool, true, false, List, [], ◌∷◌, ◌++◌, length, take, length-append, append_assoc, ap, sym, ◌∙◌, subst, arith, drop, pos_of_ne-zero, Place, moved, CharClasses, width, Note, Hand, Point, point_of, itself, peek, takes, does, entered, hand_of, asked, run, sane-meaning, sane-plain, ahead-left, ends_block, markup_turn, markup_reading, rules, max_depth, start_of, log, inner, look_first, look_again, bracket, run_at, opened_at, Among, inner_end, blocks_of_text, of_level, Numbered, SaysOf, listed, AllGo, turn_of, first_of, first_end, Spot, unit_at, Rising, if-true, InnerNumberLaw}
 use Rattle.typst_language.specs.declared.calls.Block.TheVariants as block
 use Rattle.typst_edits.proofs.BlockRuns.{sane as in-sane}
 use Rattle.typst_edits.proofs.Content.{again, same-here}

@@ -1,6 +1,5 @@
 -- A candidate that isn't at the root is pieces of a content block's run.
-use Rattle.std.proofs.Common.{◌≡◌, ℕ, ◌<◌, ◌==◌, Bool, true, false, ◌&&◌, if◌then◌else◌, List, [], ◌∷◌, ◌++◌, length, Some, refl, ap, sym, subst, arith, zero, suc, ◌+◌, ◌-◌, length-append, take, ◌∙◌}
-use Rattle.typst_edits.proofs.Words.{eqb-true, CharClasses, Tree, text_of, forest, trees, bare, inner_of, width, Mark, Note, opens_content, starts, up_to_end, after_first, cuts_in, top_cuts, log, max_depth, parsed, tree, Among, Hole, Deep, fill, path_in, plug, path_of, listed, Spot, kind_of, block_head, seconds_of_text, IsOf, Stems, from_unit, from_second, take-append_seam, is_block, Head, start_at, Block, texts, Child, laid, child_at, Candidate, candidates, inner, InnerPiecesOfLaw, Every, under, block_run, blocks_of_text, opening_child, OpensApartLaw}
+use Rattle.typst_edits.proofs.Cited.{◌≡◌, ℕ, ◌<◌, ◌==◌, Bool, true, false, ◌&&◌, if◌then◌else◌, List, [], ◌∷◌, ◌++◌, length, Some, refl, ap, sym, subst, arith, zero, suc, ◌+◌, ◌-◌, length-append, take, ◌∙◌, eqb-true, CharClasses, Tree, text_of, forest, trees, bare, inner_of, width, Mark, Note, opens_content, starts, up_to_end, after_first, cuts_in, top_cuts, log, max_depth, parsed, tree, Among, Hole, Deep, fill, path_in, plug, path_of, listed, Spot, kind_of, block_head, seconds_of_text, IsOf, Stems, from_unit, from_second, take-append_seam, is_block, Head, start_at, Block, texts, Child, laid, child_at, Candidate, candidates, inner, InnerPiecesOfLaw, Every, under, block_run, blocks_of_text, opening_child, OpensApartLaw}
 use Rattle.typst_edits.specs.CandidateRuns.{InnerPiecesOf}
 use Rattle.typst_edits.specs.Hole.Deep.{bare as alone}
 use Rattle.typst_edits.proofs.BlockPlaces.{hole-same, second-place}

@@ -1,9 +1,7 @@
 -- The law of an edit inside some pieces of a run that leaves other trivia or other errors after them: of a text's run and of a content block's.
-use Rattle.std.proofs.Common.{◌≡◌, inl, inr, ◌⊎◌, ℕ, zero, suc, Bool, true, false, ◌&&◌, if◌then◌else◌, Some, refl, ap, sym, ◌∙◌, subst, ◌+◌, ◌<◌, List, ◌++◌, length, drop, ne_eqb, [], ◌∷◌, arith}
-use Rattle.typst_edits.proofs.Words.{SyntaxKind, Place, moved, Reading, SameIn, Ask, is_end, Hand, hand_at, len_at, Trivia, Point, point_of, forgot, flush_trivia, close_if, ◌>>=◌, repeat, does, Outcome, Meaning, joined, run, plain, entered, left, same_mode, hand_of, hand_asks_of, renewed, taken_node, hand-frame, sane-run, sane-at, sane-meaning, sane-block, sane-plain, ends, markup_turn, markup_head, markup_reading, ends_block, minds, onwards, passed, text_run, place_from, onwards_at, End, made, end_of, AllGo, chain, piece_at, lead, pieces, end_at, pieces_from, end_from, rest_from, tail, whole_of, Sequence, turn_of, first_of, first_end, then_of, then_end, then_place, rest_of, Tree, text_of, CharClasses, MarkupExpr, meaning_of, rules, level_at, max_depth, text_with, Passes, same, is_error, Newlines, after_node, after_shape, encloses, itself, takes, same_in-shift, same_in-first, same_in-second, moved-sum, inner, look_again, bracket, inner_run, content_with, run_at, tail_at, close_at, onwards_past, left_past, ended, unit_at, onwards_by, Rests, peek, start, Stands, Run, read_as, top, IsRun, is_text_run, is_block_run, PassesJoint, Before, opened_by}
+use Rattle.typst_edits.proofs.Cited.{◌≡◌, inl, inr, ◌⊎◌, ℕ, zero, suc, Bool, true, false, ◌&&◌, if◌then◌else◌, Some, refl, ap, sym, ◌∙◌, subst, ◌+◌, ◌<◌, List, ◌++◌, length, drop, ne_eqb, [], ◌∷◌, arith, SyntaxKind, Place, moved, Reading, SameIn, Ask, is_end, Hand, hand_at, len_at, Trivia, Point, point_of, forgot, flush_trivia, close_if, ◌>>=◌, repeat, does, Outcome, Meaning, joined, run, plain, entered, left, same_mode, hand_of, hand_asks_of, renewed, taken_node, hand-frame, sane-run, sane-at, sane-meaning, sane-block, sane-plain, ends, markup_turn, markup_head, markup_reading, ends_block, minds, onwards, passed, text_run, place_from, onwards_at, End, made, end_of, AllGo, chain, piece_at, lead, pieces, end_at, pieces_from, end_from, rest_from, tail, whole_of, Sequence, turn_of, first_of, first_end, then_of, then_end, then_place, rest_of, Tree, text_of, CharClasses, MarkupExpr, meaning_of, rules, level_at, max_depth, text_with, Passes, same, is_error, Newlines, after_node, after_shape, encloses, itself, takes, same_in-shift, same_in-first, same_in-second, moved-sum, inner, look_again, bracket, inner_run, content_with, run_at, tail_at, close_at, onwards_past, left_past, ended, unit_at, onwards_by, Rests, peek, start, Stands, Run, read_as, top, IsRun, is_text_run, is_block_run, PassesJoint, Before, opened_by, is_over_at, Meets, Exchanged}
 use Rattle.typst_edits.specs.Frame.{inner as block_inner}
 use Rattle.typst_edits.specs.Joins.{InnerJointLaw, JointLaw}
-use Rattle.typst_edits.specs.Joint.{is_over_at, Meets, Exchanged}
 use Rattle.typst_language.proofs.Rests.{Restful}
 use Rattle.typst_edits.proofs.Boundary.{KnownAt}
 use Rattle.typst_edits.proofs.Content.{reading-is}

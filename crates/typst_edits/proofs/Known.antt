@@ -1,9 +1,7 @@
 -- What is known of the trivia at hand keeps a property, if the property holds of what was asked and of what a flush leaves.
-use Rattle.std.proofs.Common.{◌≡◌, ℕ, zero, suc, false, List, [], ◌∷◌, Option, Some, None, refl, sym, subst, ◌<◌, ◌≤◌, Bool, true, ◌&&◌, if◌then◌else◌, nat_lt, length, ap, ◌∙◌, arith}
-use Rattle.typst_edits.proofs.Words.{SyntaxMode, Place, moved, Tree, CharClasses, Call, Reading, Hand, known_by, hand_at, token_at, len_at, at_trivia, Ahead, direct, after_trivia, ahead_by, ahead, hand_asks, Rules, meaning_of, level_of, Trivia, Point, Shape, after_node, after_shape, Op, Parser, hand, so, further, column, erred, takes, takes_so, flushes, complains, advises, marks, is_deepest, Outcome, Meaning, Level, joined, inside, reshaped, grown, same_mode, flushed_state, done, run, moved-sum, ahead-left, shape-known, on_both, and-second, ltb-true, is_trivia, token, SameIn, hand-frame}
+use Rattle.typst_edits.proofs.Cited.{◌≡◌, ℕ, zero, suc, false, List, [], ◌∷◌, Option, Some, None, refl, sym, subst, ◌<◌, ◌≤◌, Bool, true, ◌&&◌, if◌then◌else◌, nat_lt, length, ap, ◌∙◌, arith, SyntaxMode, Place, moved, Tree, CharClasses, Call, Reading, Hand, known_by, hand_at, token_at, len_at, at_trivia, Ahead, direct, after_trivia, ahead_by, ahead, hand_asks, Rules, meaning_of, level_of, Trivia, Point, Shape, after_node, after_shape, Op, Parser, hand, so, further, column, erred, takes, takes_so, flushes, complains, advises, marks, is_deepest, Outcome, Meaning, Level, joined, inside, reshaped, grown, same_mode, flushed_state, done, run, moved-sum, ahead-left, shape-known, on_both, and-second, ltb-true, is_trivia, token, SameIn, hand-frame, token-same}
 use Rattle.typst_language.proofs.Runs.{shape-held}
 use Rattle.typst_edits.proofs.Traversal.{Parts, all-run}
-use Rattle.typst_language.proofs.Looks.{token-same}
 use Rattle.typst_language.proofs.Trivia.{none-left}
 pub use Rattle.typst_language.proofs.Trivia.{ahead-stop as ahead-direct}
 

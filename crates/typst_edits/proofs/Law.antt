@@ -1,10 +1,6 @@
 -- The law of an edit inside a block, for every parser of the language.
-use Rattle.std.proofs.Common.{◌≡◌, ℕ, zero, suc, ◌+◌, Bool, true, false, if◌then◌else◌, List, [], ◌∷◌, ◌++◌, append_assoc, refl, ap, sym, ◌∙◌, arith}
-use Rattle.std.proofs.Math.Bool.{or-false}
-use Rattle.typst_edits.proofs.Words.{map-append, is_error, Tree, Place, moved, CharClasses, Block, shift, marked, Call, Answer, Point, state_of, forgot, peek, Parser, ◌>>◌, flushes, gives, does, next, pick, repeat, wraps, grows, nests, scoped, either, calls, block, Rules, blocks_of, meaning_of, level_of, Outcome, Meaning, Level, blockless, plain, less, followed, before, bounded, deeper_by_one, entered, left_to, done, run, left, closed, same_in-first, same_in-sunk, Sane, sane-run, sane-plain, sane-meaning, sane-block, Spot, around, Fits, block_head, lowered, after_spot, sunk_spot, closed_spot, ended, last_node, here_spot, Spots, scoped_spot, bounded_spots, spots, call_spots, block_spots, level_spots, left-empties, if-true, if-false}
-use Rattle.typst_language.specs.Meaning.{chosen}
+use Rattle.typst_edits.proofs.Cited.{◌≡◌, ℕ, zero, suc, ◌+◌, Bool, true, false, if◌then◌else◌, List, [], ◌∷◌, ◌++◌, append_assoc, refl, ap, sym, ◌∙◌, arith, or-false, map-append, is_error, Tree, Place, moved, CharClasses, Block, shift, marked, Call, Answer, Point, state_of, forgot, peek, Parser, ◌>>◌, flushes, gives, does, next, pick, repeat, wraps, grows, nests, scoped, either, calls, block, Rules, blocks_of, meaning_of, level_of, Outcome, Meaning, Level, blockless, plain, less, followed, before, bounded, deeper_by_one, entered, left_to, done, run, left, closed, same_in-first, same_in-sunk, Sane, sane-run, sane-plain, sane-meaning, sane-block, Spot, around, Fits, block_head, lowered, after_spot, sunk_spot, closed_spot, ended, last_node, here_spot, Spots, scoped_spot, bounded_spots, spots, call_spots, block_spots, level_spots, left-empties, if-true, if-false, chosen, framed-done}
 use Rattle.typst_language.specs.declared.calls.Mark.TheVariants as mark
-use Rattle.typst_language.proofs.Frame.{framed-done}
 use Rattle.typst_edits.proofs.Every.{Every, every-map, every-if}
 use Rattle.typst_edits.proofs.Outcomes.{same-outcome, shift-zero, lowered-zero, sunk-lowered, sunk-shift}
 use Rattle.typst_edits.proofs.Spots.{Edits, Lawful, lawful-after, Inside, lawful-same, lawful-by, joined-inside, value-same, inside-repeated, inside-wrapped, inside-nesting, edits-as, inside-growing}

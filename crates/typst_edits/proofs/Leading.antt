@@ -1,7 +1,5 @@
 -- Where the pieces of a run begin among the nodes that it gives.
-use Rattle.std.proofs.Common.{inr, ◌≡◌, ℕ, zero, suc, ◌+◌, ◌-◌, ◌<◌, ◌≤◌, Bool, true, false, ◌&&◌, nat_lt, List, [], ◌∷◌, ◌++◌, length, take, drop, length-append, append_assoc, append-nil, Option, None, Some, refl, ap, sym, ◌∙◌, subst, arith, codes}
-use Rattle.typst_edits.proofs.Words.{lt-ltb, nil_from_length, Place, moved, CharClasses, Tree, forest, trees, text_of, inner_of, made_error, width, as_at_hand, hand_at, utf8_ahead, Trivia, Point, point_of, gap_of, pending, turns_wrong, itself, keeps, peek, flush_trivia, does, repeat, Outcome, Meaning, plain, less, joined, repeated, start_point, entered, hand_of, asked, run, Tidy, Backs, Stands, Sane, sane-run, texts, texts-append, texts-one, texts-first, text-shaped, text-add, Holds, kept-joined, less-none, moved-sum, ends, markup_turn, markup_reading, rules, max_depth, start_of, whole, parsed, look_first, look_again, bracket, run_at, tail_at, close_at, Settles, together, standing_by, nodes_after, Among, Every, block_with, onwards_at, text_run, bytes_of, LeadsAt, opening_child, LeadingInner, blocks_of_text, goes, given, made, AllGo, End, end_of, chain, Sequence, turn_of, first_of, first_end, then_of, then_end, then_place, rest_of, Spot, last_node, unit_at, ended, true_from_ne_false, both_ways, Run, read_as, top, is_text_run, is_block_run, is_over, opened_by, markup_from, run_from, token_after, token_past, TakesSome, kids_in, kids_of_run, passed, onwards}
-use Rattle.typst_language.proofs.Leaves.{Keeps, blank-nil}
+use Rattle.typst_edits.proofs.Cited.{inr, ◌≡◌, ℕ, zero, suc, ◌+◌, ◌-◌, ◌<◌, ◌≤◌, Bool, true, false, ◌&&◌, nat_lt, List, [], ◌∷◌, ◌++◌, length, take, drop, length-append, append_assoc, append-nil, Option, None, Some, refl, ap, sym, ◌∙◌, subst, arith, codes, lt-ltb, nil_from_length, Place, moved, CharClasses, Tree, forest, trees, text_of, inner_of, made_error, width, as_at_hand, hand_at, utf8_ahead, Trivia, Point, point_of, gap_of, pending, turns_wrong, itself, keeps, peek, flush_trivia, does, repeat, Outcome, Meaning, plain, less, joined, repeated, start_point, entered, hand_of, asked, run, Tidy, Backs, Stands, Sane, sane-run, texts, texts-append, texts-one, texts-first, text-shaped, text-add, Holds, kept-joined, less-none, moved-sum, ends, markup_turn, markup_reading, rules, max_depth, start_of, whole, parsed, look_first, look_again, bracket, run_at, tail_at, close_at, Settles, together, standing_by, nodes_after, Among, Every, block_with, onwards_at, text_run, bytes_of, LeadsAt, opening_child, LeadingInner, blocks_of_text, goes, given, made, AllGo, End, end_of, chain, Sequence, turn_of, first_of, first_end, then_of, then_end, then_place, rest_of, Spot, last_node, unit_at, ended, true_from_ne_false, both_ways, Run, read_as, top, is_text_run, is_block_run, is_over, opened_by, markup_from, run_from, token_after, token_past, TakesSome, kids_in, kids_of_run, passed, onwards, Keeps, blank-nil}
 use Rattle.typst_edits.specs.Frame.{inner as block_inner}
 use Rattle.typst_edits.specs.Leading.{LeadingLaw, LeadingInnerLaw}
 use Rattle.typst_kinds.specs.declared.kind.SyntaxKind.TheVariants as kind

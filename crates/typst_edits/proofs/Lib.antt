@@ -39,7 +39,7 @@
 --   mode_law                     BlockModes: a block's first token, and what stands in it
 --   joints_of_texts              computed (laws); Begins: the test of looks
 --   answers_of_texts, blocks_of_texts, origins_of_texts, runs_of_texts, splices_of_texts, inner_splices_of_texts, conditions_of_texts, rare_conditions_of_texts      computed (laws); Computing: what is opened for them
-pub mod Words
+pub mod Cited
 pub mod Every
 pub mod Computing
 pub mod Traversal

@@ -1,6 +1,5 @@
 -- What is said of each look in a list of asks and of its place: it holds of several lists together, and whatever is noted between the looks.
-use Rattle.std.proofs.Common.{ℕ, ◌+◌, ◌<◌, ◌≤◌, List, [], ◌∷◌, ◌++◌, length}
-use Rattle.typst_edits.proofs.Words.{Look, Mark, State, Ask, Place, moved, near, shift, only_looks, looked, marked, lowered, AllEndBy, AllBeginIn, AllFrom}
+use Rattle.typst_edits.proofs.Cited.{ℕ, ◌+◌, ◌<◌, ◌≤◌, List, [], ◌∷◌, ◌++◌, length, Look, Mark, State, Ask, Place, moved, near, shift, only_looks, looked, marked, lowered, AllEndBy, AllBeginIn, AllFrom}
 
 -- A property of lists of asks says something of each look, and nothing of notes.
 pub record OfLooks (F : List Ask → Type 0) : Type 1 where

@@ -1,14 +1,11 @@
 -- What holds of the candidates of a node, by those of its child near the replaced bytes and of its own run; and where a candidate that is a block stands.
-use Rattle.std.proofs.Common.{◌≡◌, ℕ, zero, suc, ◌+◌, ◌*◌, ◌<◌, true, false, if◌then◌else◌, List, [], ◌∷◌, ◌++◌, length, Option, Some, None, refl, ap, sym, subst, ◌∙◌, arith, append_assoc, length-append}
-use Rattle.typst_edits.proofs.Words.{is_block, Head, Note, texts, Forest, none, more, Tree, forest, trees, text_of, Child, laid, first_near, end_near, child_at, ChildRange, Candidate, of_run, run_in, candidates_at, begins, of_children, is_all, of_child_ranges, child_ranges, covers, Among, this, that, Every, Hole, plug, path_of, under, on_both, forest_trees, is_block_head}
+use Rattle.typst_edits.proofs.Cited.{◌≡◌, ℕ, zero, suc, ◌+◌, ◌*◌, ◌<◌, true, false, if◌then◌else◌, List, [], ◌∷◌, ◌++◌, length, Option, Some, None, refl, ap, sym, subst, ◌∙◌, arith, append_assoc, length-append, is_block, Head, Note, texts, Forest, none, more, Tree, forest, trees, text_of, Child, laid, first_near, end_near, child_at, ChildRange, Candidate, of_run, run_in, candidates_at, begins, of_children, is_all, of_child_ranges, child_ranges, covers, Among, this, that, Every, Hole, plug, path_of, under, on_both, forest_trees, is_block_head, begins_first, and-both}
 use Rattle.typst_tree.specs.Tree.{joined}
 use Rattle.typst_candidates.specs.Candidates.{around, of_block}
 use Rattle.typst_edits.specs.Hole.Deep.{bare}
 use Rattle.typst_edits.proofs.Edit.{among}
 use Rattle.typst_edits.proofs.Every.{every-append, every-by, every-if, some_or}
 use Rattle.typst_edits.proofs.Walk.{length-texts, left_text}
-use Rattle.typst_candidates.proofs.Edges.{begins_first}
-use Rattle.typst_grammar.proofs.Fine.{and-both}
 
 -- ---- lists
 

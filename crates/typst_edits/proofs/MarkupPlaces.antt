@@ -1,6 +1,5 @@
 -- Where a candidate that is pieces comes from: from the run of the tree's root, or from that of a child that covers the replaced bytes and is the markup of a content block.
-use Rattle.std.proofs.Common.{◌≡◌, ◌⊎◌, inl, inr, ℕ, zero, suc, ◌+◌, ◌<◌, Bool, true, false, ◌&&◌, if◌then◌else◌, List, [], ◌∷◌, ◌++◌, length, Option, Some, None, refl, ap, sym, ◌∙◌, subst, arith, append_assoc, length-append}
-use Rattle.typst_edits.proofs.Words.{same, Head, SyntaxKind, Note, texts, Forest, none, more, Tree, forest, trees, Child, laid, first_near, child_at, Candidate, of_run, run_in, candidates_at, cuts_in, Among, Every, Deep, fill, path_in, under, forest_trees}
+use Rattle.typst_edits.proofs.Cited.{◌≡◌, ◌⊎◌, inl, inr, ℕ, zero, suc, ◌+◌, ◌<◌, Bool, true, false, ◌&&◌, if◌then◌else◌, List, [], ◌∷◌, ◌++◌, length, Option, Some, None, refl, ap, sym, ◌∙◌, subst, arith, append_assoc, length-append, same, Head, SyntaxKind, Note, texts, Forest, none, more, Tree, forest, trees, Child, laid, first_near, child_at, Candidate, of_run, run_in, candidates_at, cuts_in, Among, Every, Deep, fill, path_in, under, forest_trees}
 use Rattle.typst_tree.specs.Tree.{joined}
 use Rattle.typst_edits.specs.Hole.Deep.{bare}
 use Rattle.typst_kinds.specs.declared.kind.SyntaxKind.TheVariants as kind

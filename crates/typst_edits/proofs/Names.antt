@@ -1,6 +1,5 @@
 -- Each block of a reading is the one of its name, and its marks stand in the log.
-use Rattle.std.proofs.Common.{◌≡◌, ℕ, ◌+◌, ◌-◌, true, Option, Some, None, List, [], ◌++◌, map, arith, ◌∷◌, append_assoc, refl, ap, sym, ◌∙◌}
-use Rattle.typst_edits.proofs.Words.{is_ordinary, Place, moved, CharClasses, Block, Reading, Point, forgot, state_of, Shape, peek, Parser, ◌>>◌, flushes, does, Rules, meaning_of, level_of, blocks_of, Outcome, Meaning, Level, blockless, entered, done, run, grew, Hole, wrap_hole, Spot, block_head, valued, then_spot, after_spot, rehole, sunk_spot, closed_spot, here_spot, ended, Spots, joined_spots, last_spot, reshaped_spot, wrapped_spot, grown_spot, scoped_spot, call_spots, block_spots, level_spots, call_seconds, block_seconds, level_seconds, map-append, shift, shift_one, marked, Named}
+use Rattle.typst_edits.proofs.Cited.{◌≡◌, ℕ, ◌+◌, ◌-◌, true, Option, Some, None, List, [], ◌++◌, map, arith, ◌∷◌, append_assoc, refl, ap, sym, ◌∙◌, is_ordinary, Place, moved, CharClasses, Block, Reading, Point, forgot, state_of, Shape, peek, Parser, ◌>>◌, flushes, does, Rules, meaning_of, level_of, blocks_of, Outcome, Meaning, Level, blockless, entered, done, run, grew, Hole, wrap_hole, Spot, block_head, valued, then_spot, after_spot, rehole, sunk_spot, closed_spot, here_spot, ended, Spots, joined_spots, last_spot, reshaped_spot, wrapped_spot, grown_spot, scoped_spot, call_spots, block_spots, level_spots, call_seconds, block_seconds, level_seconds, map-append, shift, shift_one, marked, Named}
 use Rattle.typst_edits.proofs.Gathering.{Parts, Given, AllHold, CallsHold, all-run, all-level}
 use Rattle.typst_edits.proofs.Every.{Every, every-any, every-append, every-map, every-flat}
 use Rattle.typst_language.specs.declared.calls.Mark.TheVariants as mark

@@ -1,11 +1,7 @@
 -- Marks are nested: pieces of a run say its level, and blocks, with the marks in them, a deeper one.
-use Rattle.std.proofs.Common.{◌≡◌, ℕ, zero, suc, ◌+◌, ◌-◌, ◌≤◌, ◌<◌, max, min, Bool, true, false, List, [], ◌∷◌, ◌++◌, append_assoc, refl, sym, subst, arith}
-use Rattle.typst_edits.proofs.Words.{map-append, Place, moved, CharClasses, far, near, Nested, Block, Mark, State, Ask, shift, shift_one, sunk, sink_one, looked, marked, meaning_of, level_of, blocks_of, Point, forgot, state_of, Call, too_deep, deeper, peek, eat, eat_making, node, note, flush_trivia, within, Parser, ◌>>◌, flushes, Level, bounded, blockless, start_point, done, run, Outcome, rules, production, max_depth, start_of, whole, parsed, log, block_production, markup_reading, note_piece, markup_turn, markup_run, Guarded, guarded-production, block_at, Noting, ended}
-use Rattle.typst_language.specs.Depth.{skip_one}
-use Rattle.typst_grammar.proofs.Guarded.{guarded-blocks, guarded-whole}
+use Rattle.typst_edits.proofs.Cited.{◌≡◌, ℕ, zero, suc, ◌+◌, ◌-◌, ◌≤◌, ◌<◌, max, min, Bool, true, false, List, [], ◌∷◌, ◌++◌, append_assoc, refl, sym, subst, arith, map-append, Place, moved, CharClasses, far, near, Nested, Block, Mark, State, Ask, shift, shift_one, sunk, sink_one, looked, marked, meaning_of, level_of, blocks_of, Point, forgot, state_of, Call, too_deep, deeper, peek, eat, eat_making, node, note, flush_trivia, within, Parser, ◌>>◌, flushes, Level, bounded, blockless, start_point, done, run, Outcome, rules, production, max_depth, start_of, whole, parsed, log, block_production, markup_reading, note_piece, markup_turn, markup_run, Guarded, guarded-production, block_at, Noting, ended, guarded-blocks, guarded-whole, NestedLaw, skip_one}
 use Rattle.typst_candidates.specs.Nested.Nested.{none as nothing, piece as one_piece, block as one_block}
 use Rattle.typst_language.specs.declared.calls.Mark.TheVariants as mark
-use Rattle.typst_edits.specs.Nested.{NestedLaw}
 use Rattle.typst_edits.proofs.Bytes.{none_yet, note_by, notes_from, fresh_notes, next_note, logged-listed, notes-around, AllMarks}
 use Rattle.typst_edits.proofs.Rising.{pieces, Joins, from-run}
 

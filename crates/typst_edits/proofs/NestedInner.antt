@@ -1,7 +1,5 @@
 -- The notes between the two of a content block are nested, so no other note ends it.
-use Rattle.std.proofs.Common.{◌≡◌, ℕ, suc, ◌<◌, true, List, [], ◌∷◌, ◌++◌, length, drop, refl, ap, sym, ◌∙◌, subst, arith}
-use Rattle.typst_edits.proofs.Words.{Note, Nested, start_of, run_at, of_level, NumberedInner, listed, turn_of}
-use Rattle.typst_edits.specs.Nested.{NestedInnerLaw}
+use Rattle.typst_edits.proofs.Cited.{◌≡◌, ℕ, suc, ◌<◌, true, List, [], ◌∷◌, ◌++◌, length, drop, refl, ap, sym, ◌∙◌, subst, arith, Note, Nested, start_of, run_at, of_level, NumberedInner, listed, turn_of, NestedInnerLaw}
 use Rattle.typst_edits.proofs.Cuts.{few-go}
 use Rattle.typst_edits.proofs.NumberedNotes.{level-long, NestedNumbers, nested-numbers}
 use Rattle.typst_edits.proofs.OpensApart.{opens-apart-law}

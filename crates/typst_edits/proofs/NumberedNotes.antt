@@ -1,8 +1,5 @@
 -- The notes of a run by their numbers.
-use Rattle.std.proofs.Common.{◌≡◌, ℕ, zero, suc, ◌+◌, ◌-◌, ◌<◌, ◌==◌, eq-eqb, ne_eqb, max, min, List, [], ◌∷◌, ◌++◌, length, refl, ap, sym, subst, arith, Bool, true, false, ◌&&◌, nat_lt, take, Some, ◌∙◌, ◌≤◌, if◌then◌else◌, length-append}
-use Rattle.typst_edits.proofs.Words.{Place, moved, position, far, near, width, Mark, Note, State, Ask, shift, looked, marked, of_level, Numbered, cut_after, SaysOf, NumberedInner, ltb-true, lt-ltb, SyntaxKind, same, Nested, CharClasses, MarkupExpr, deeper, is_end, as_at_hand, Point, gap_of, point_of, state_of, after_node, Outcome, Meaning, Level, joined, turns, as_last, bound, repeated, hand_of, hand_asks_of, asked, run, sane-run, sane-at, moved-sum, and-second, ends, markup_turn, ends_block, max_depth, level_at, start_of, parsed, log, rules, inner, bracket, inner_lead, inner_run, inner_tail, inner_close, run_at, opened_at, Among, inner_end, blocks_of_text, block_at, goes, listed, made, AllGo, End, end_of, piece_at, end_at, start, lead, tail, pieces, Sequence, turn_of, notes_in, Spot, unit_at, peek, Within, if-true, if-false}
-use Rattle.typst_edits.specs.NumberedNotes.{NumberedRunLaw, NumberedInnerLaw, NumberLaw}
-use Rattle.typst_edits.specs.PieceNotes.{Says}
+use Rattle.typst_edits.proofs.Cited.{◌≡◌, ℕ, zero, suc, ◌+◌, ◌-◌, ◌<◌, ◌==◌, eq-eqb, ne_eqb, max, min, List, [], ◌∷◌, ◌++◌, length, refl, ap, sym, subst, arith, Bool, true, false, ◌&&◌, nat_lt, take, Some, ◌∙◌, ◌≤◌, if◌then◌else◌, length-append, Place, moved, position, far, near, width, Mark, Note, State, Ask, shift, looked, marked, of_level, Numbered, cut_after, SaysOf, NumberedInner, ltb-true, lt-ltb, SyntaxKind, same, Nested, CharClasses, MarkupExpr, deeper, is_end, as_at_hand, Point, gap_of, point_of, state_of, after_node, Outcome, Meaning, Level, joined, turns, as_last, bound, repeated, hand_of, hand_asks_of, asked, run, sane-run, sane-at, moved-sum, and-second, ends, markup_turn, ends_block, max_depth, level_at, start_of, parsed, log, rules, inner, bracket, inner_lead, inner_run, inner_tail, inner_close, run_at, opened_at, Among, inner_end, blocks_of_text, block_at, goes, listed, made, AllGo, End, end_of, piece_at, end_at, start, lead, tail, pieces, Sequence, turn_of, notes_in, Spot, unit_at, peek, Within, if-true, if-false, NumberedRunLaw, NumberedInnerLaw, NumberLaw, Says}
 use Rattle.typst_edits.proofs.Bytes.{none_yet, note_by, notes_from, fresh_notes, AllMarks, marks-append, marks-shift, none-hand, none-close, logged-listed}
 use Rattle.typst_edits.proofs.BlockRuns.{content-is, whole-is, within}
 use Rattle.typst_edits.proofs.Boundary.{KnownAt, stopped-is, stopped-asks, turn-asks, early-marks, turn-goes, turn-known, piece_mark}

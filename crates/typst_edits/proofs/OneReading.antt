@@ -1,12 +1,7 @@
 -- One reading of a new text serves every candidate of a run.
-use Rattle.std.proofs.Common.{◌≡◌, ℕ, zero, suc, ◌+◌, ◌-◌, ◌<◌, ◌≤◌, ◌==◌, ne_eqb, if◌then◌else◌, Bool, true, false, ◌&&◌, nat_lt, List, [], ◌∷◌, ◌++◌, length, drop, length-append, append_assoc, Some, refl, ap, sym, ◌∙◌, subst, arith, map, take, slice_get, inl}
-use Rattle.typst_edits.proofs.Words.{lt-ltb, Place, moved, CharClasses, Ask, shift, is_end, Trivia, Point, gap_of, pending, point_of, peek, Parser, Outcome, Meaning, Level, plain, less, joined, hand_of, run, sane-run, moved-sum, less-none, ends, ends_block, markup_turn, rules, max_depth, start_of, tree, bracket, inner_lead, run_at, opened_at, tail_at, close_at, together, standing_by, nodes_after, read_by, text_with, AllEndBy, Run, top, read_as, opened_by, end_by, is_over, nodes_now, Before, Agrees, PassesPieces, cut_at, path_to, first_place, minds_at, onwards_by, text_run, onwards_at, goes, TakesNone, ServesMore, fresh, made, AllGo, End, end_of, asks_of, chain, lead, start, pieces, end_at, Sequence, turn_of, first_of, first_end, then_of, then_end, then_place, rest_of, Spot, made-sum, map-append, drop-map, drop-append-le, take-map, length-map, take-append-drop, Tree, bare, trees, replaced_at, At, kids_of, width, kids_in, given, AtPath, kids_of_run, run_from, StandsBetween, Begins, IsRun, is_block_run, TakesSome, StandsAt, Leading}
+use Rattle.typst_edits.proofs.Cited.{◌≡◌, ℕ, zero, suc, ◌+◌, ◌-◌, ◌<◌, ◌≤◌, ◌==◌, ne_eqb, if◌then◌else◌, Bool, true, false, ◌&&◌, nat_lt, List, [], ◌∷◌, ◌++◌, length, drop, length-append, append_assoc, Some, refl, ap, sym, ◌∙◌, subst, arith, map, take, slice_get, inl, lt-ltb, Place, moved, CharClasses, Ask, shift, is_end, Trivia, Point, gap_of, pending, point_of, peek, Parser, Outcome, Meaning, Level, plain, less, joined, hand_of, run, sane-run, moved-sum, less-none, ends, ends_block, markup_turn, rules, max_depth, start_of, tree, bracket, inner_lead, run_at, opened_at, tail_at, close_at, together, standing_by, nodes_after, read_by, text_with, AllEndBy, Run, top, read_as, opened_by, end_by, is_over, nodes_now, Before, Agrees, PassesPieces, cut_at, path_to, first_place, minds_at, onwards_by, text_run, onwards_at, goes, TakesNone, ServesMore, fresh, made, AllGo, End, end_of, asks_of, chain, lead, start, pieces, end_at, Sequence, turn_of, first_of, first_end, then_of, then_end, then_place, rest_of, Spot, made-sum, map-append, drop-map, drop-append-le, take-map, length-map, take-append-drop, Tree, bare, trees, replaced_at, At, kids_of, width, kids_in, given, AtPath, kids_of_run, run_from, StandsBetween, Begins, IsRun, is_block_run, TakesSome, StandsAt, Leading, length-take-le, EndsOld, EndsNew, OneReadingLaw, GivesAgain, GivesAgainLaw, Resumes, asks-append}
 use Rattle.typst_edits.specs.BlockRuns.{inner as block_level}
 use Rattle.typst_edits.specs.Frame.{inner}
-use Rattle.typst_edits.specs.OneReading.{EndsOld, EndsNew, OneReadingLaw, GivesAgain, GivesAgainLaw}
-use Rattle.typst_edits.specs.Resumed.{Resumes}
-use Rattle.typst_grammar.proofs.Pieces.{asks-append}
-use Rattle.std.proofs.lemmas.List.{length-take-le}
 use Rattle.typst_edits.specs.KeptNodes.{KeptNodes, KeptNodesLaw, PutAfterLaw}
 use Rattle.typst_edits.proofs.Boundary.{KnownAt, first-of, made-add, looks_in, each-ends, going-on, known-made}
 use Rattle.typst_edits.proofs.Children.{tidy-together, gives-pieces, StartsWith, leads-run, back-law, behind-back, block-at}

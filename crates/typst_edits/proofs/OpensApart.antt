@@ -1,6 +1,5 @@
 -- Of two notes at which blocks begin the later one's token begins at a later byte.
-use Rattle.std.proofs.Common.{◌≡◌, ℕ, ◌+◌, ◌≤◌, List, [], ◌∷◌, ◌++◌, ap, subst, arith, true}
-use Rattle.typst_edits.proofs.Words.{CharClasses, Block, Note, log, is_opening, OpensApartLaw, listed}
+use Rattle.typst_edits.proofs.Cited.{◌≡◌, ℕ, ◌+◌, ◌≤◌, List, [], ◌∷◌, ◌++◌, ap, subst, arith, true, CharClasses, Block, Note, log, is_opening, OpensApartLaw, listed}
 use Rattle.typst_language.specs.declared.calls.Mark.TheVariants as mark
 use Rattle.typst_edits.proofs.Rising.{taken_behind, Spread, notes-spread}
 

@@ -1,9 +1,5 @@
 -- A block in a larger whole.
-use Rattle.std.proofs.Common.{◌≡◌, ℕ, suc, ◌+◌, ◌-◌, ◌<◌, ◌≤◌, Bool, false, ◌||◌, List, [], ◌∷◌, ◌++◌, length, map, take, length-append, append_assoc, refl, ap, sym, ◌∙◌, arith}
-use Rattle.std.proofs.Math.Bool.{or_assoc}
-use Rattle.typst_edits.proofs.Words.{map-append, lt-ltb, is_error, Head, Tree, Ask, shift, shift_one, sunk, sink_one, Point, hinted, seen, hinted_last, Outcome, less, joined, Deep, fill, Hole, plug, under, Spot, around, then_spot, after_spot, lowered, lower}
-use Rattle.typst_language.specs.Shape.{hinted_error}
-use Rattle.typst_language.specs.Meaning.{hints_before}
+use Rattle.typst_edits.proofs.Cited.{◌≡◌, ℕ, suc, ◌+◌, ◌-◌, ◌<◌, ◌≤◌, Bool, false, ◌||◌, List, [], ◌∷◌, ◌++◌, length, map, take, length-append, append_assoc, refl, ap, sym, ◌∙◌, arith, or_assoc, map-append, lt-ltb, is_error, Head, Tree, Ask, shift, shift_one, sunk, sink_one, Point, hinted, seen, hinted_last, Outcome, less, joined, Deep, fill, Hole, plug, under, Spot, around, then_spot, after_spot, lowered, lower, hinted_error, hints_before}
 use Rattle.typst_edits.specs.Hole.{top}
 use Rattle.typst_edits.specs.Hole.Deep.{bare}
 pub use Rattle.typst_grammar.proofs.Pieces.{shift-zero, shift-twice}

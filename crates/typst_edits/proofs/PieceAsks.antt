@@ -1,6 +1,6 @@
 -- What is asked of pieces of any run, cut at the note where some of them end.
 use Rattle.std.proofs.Common.{◌≡◌, ℕ, zero, suc, ◌+◌, ◌<◌, true, List, [], ◌∷◌, ◌++◌, append_assoc, append-nil, refl, ap, sym, ◌∙◌, subst, arith, Bool, rules}
-use Rattle.typst_edits.proofs.Words.{map-append, Place, moved, Ask, shift, shift_one, SameIn, looked, marked, hand_asks_of, Point, gap_of, state_of, AllEndBy, AllBeginIn, note_at, looks_next, own_of, AllGo, asks_of, End, end_of, Sequence, turn_of, first_of, first_end, then_of, then_end, then_place, Noting, noting, notes_in, lowered, same_in-shift, same_in-second}
+use Rattle.typst_edits.proofs.Cited.{map-append, Place, moved, Ask, shift, shift_one, SameIn, looked, marked, hand_asks_of, Point, gap_of, state_of, AllEndBy, AllBeginIn, note_at, looks_next, own_of, AllGo, asks_of, End, end_of, Sequence, turn_of, first_of, first_end, then_of, then_end, then_place, Noting, noting, notes_in, lowered, same_in-shift, same_in-second}
 use Rattle.typst_language.specs.declared.calls.Mark.TheVariants as mark
 use Rattle.typst_edits.proofs.Boundary.{looks_in, piece_mark, each-ends, made-ends}
 use Rattle.typst_edits.proofs.EmptyRuns.{Never}

@@ -1,7 +1,5 @@
 -- From a note back to the pieces of a run: it is one of the run's notes by their numbers.
-use Rattle.std.proofs.Common.{◌≡◌, ℕ, suc, ◌+◌, ◌<◌, ◌==◌, eq-eqb, Bool, true, false, if◌then◌else◌, List, ◌∷◌, length, sym, ◌∙◌, arith}
-use Rattle.typst_edits.proofs.Words.{Note, max_depth, start_of, log, run_at, Among, this, that, inner_end, of_level, Numbered, SaysOf, listed, piece_at, end_at, lead, turn_of}
-use Rattle.typst_edits.specs.PieceNotes.{RunNotesLaw, InnerNotesLaw}
+use Rattle.typst_edits.proofs.Cited.{◌≡◌, ℕ, suc, ◌+◌, ◌<◌, ◌==◌, eq-eqb, Bool, true, false, if◌then◌else◌, List, ◌∷◌, length, sym, ◌∙◌, arith, Note, max_depth, start_of, log, run_at, Among, this, that, inner_end, of_level, Numbered, SaysOf, listed, piece_at, end_at, lead, turn_of, RunNotesLaw, InnerNotesLaw}
 use Rattle.typst_edits.proofs.NumberedNotes.{go-fewer, numbered-run-law, numbered-inner-law}
 
 -- a note has a number among several, the first of which has this one

@@ -1,6 +1,5 @@
 -- What is logged of pieces that are read again: of any run.
-use Rattle.std.proofs.Common.{◌≡◌, ℕ, zero, suc, ◌+◌, Bool, false, List, [], ◌∷◌, ◌++◌, Some, refl, ap, sym, ◌∙◌, arith}
-use Rattle.typst_edits.proofs.Words.{map-append, Place, moved, look, token, Ask, shift, looked, at_trivia, no_log, logged, Outcome, start_point, run, Trivia, point_of, peek, moved-sum, max_depth, markup_reading, inner_lead, run_at, own_of, text_run, read_again, SamePieces, End, asks_of, lead, end_at, Sequence, first_end, then_of, is_text_run, is_block_run}
+use Rattle.typst_edits.proofs.Cited.{◌≡◌, ℕ, zero, suc, ◌+◌, Bool, false, List, [], ◌∷◌, ◌++◌, Some, refl, ap, sym, ◌∙◌, arith, map-append, Place, moved, look, token, Ask, shift, looked, at_trivia, no_log, logged, Outcome, start_point, run, Trivia, point_of, peek, moved-sum, max_depth, markup_reading, inner_lead, run_at, own_of, text_run, read_again, SamePieces, End, asks_of, lead, end_at, Sequence, first_end, then_of, is_text_run, is_block_run}
 use Rattle.typst_kinds.specs.declared.mode.SyntaxMode.TheVariants as mode
 use Rattle.typst_language.proofs.Logs.{logged-shift}
 use Rattle.typst_edits.specs.InnerPiecesLog.{asks_again, InnerPiecesLogLaw}

@@ -1,10 +1,7 @@
 -- What code finds of a candidate that is pieces of a run, a content block's or a text's, by the numbers of its entries and a reading from its first token on.
-use Rattle.std.proofs.Common.{◌≡◌, ◌↔◌, ℕ, zero, suc, ◌+◌, ◌-◌, ◌<◌, ◌≤◌, Bool, true, false, List, [], ◌∷◌, ◌++◌, length, take, Some, refl, ap, sym, ◌∙◌, subst, arith}
-use Rattle.typst_edits.proofs.Words.{Place, moved, CharClasses, Tree, bare, width, position, Note, shift, Outcome, start_point, entered, run, itself, takes, does, peek, no_log, logged, markup_reading, Trivia, gap_of, pending, point_of, moved-sum, Candidate, units_of, spliced, max_depth, log, tree, first_look, look_first, look_again, bracket, inner_lead, run_at, opened_at, EndsBefore, Among, text_with, Run, top, cut_at, is_over, Agrees, PassesPieces, Gives, of_block, of_pieces, Before, candidates, path_of, OpensApartLaw, first_place, minds_at, block_run, Around, inner_end, inner_both, InOrderLaw, level_in, InnerPart, TakesNone, fresh, blocks_of_text, made, AllGo, End, asks_of, pieces, end_at, pieces_from, piece_at, lead, turn_of, first_of, first_end, then_of, then_end, Spot, entries_from, notes_in, token_start, of_level, cut_after, root_run, text_run, end_note, pieces_log, both_ways, PieceNote, is_block_run}
+use Rattle.typst_edits.proofs.Cited.{◌≡◌, ◌↔◌, ℕ, zero, suc, ◌+◌, ◌-◌, ◌<◌, ◌≤◌, Bool, true, false, List, [], ◌∷◌, ◌++◌, length, take, Some, refl, ap, sym, ◌∙◌, subst, arith, Place, moved, CharClasses, Tree, bare, width, position, Note, shift, Outcome, start_point, entered, run, itself, takes, does, peek, no_log, logged, markup_reading, Trivia, gap_of, pending, point_of, moved-sum, Candidate, units_of, spliced, max_depth, log, tree, first_look, look_first, look_again, bracket, inner_lead, run_at, opened_at, EndsBefore, Among, text_with, Run, top, cut_at, is_over, Agrees, PassesPieces, Gives, of_block, of_pieces, Before, candidates, path_of, OpensApartLaw, first_place, minds_at, block_run, Around, inner_end, inner_both, InOrderLaw, level_in, InnerPart, TakesNone, fresh, blocks_of_text, made, AllGo, End, asks_of, pieces, end_at, pieces_from, piece_at, lead, turn_of, first_of, first_end, then_of, then_end, Spot, entries_from, notes_in, token_start, of_level, cut_after, root_run, text_run, end_note, pieces_log, both_ways, PieceNote, is_block_run, CutOnceLaw, ReadLaw, RunEntriesLaw, RunGives, RunGivesLaw, RunPartLaw, end_alone, read_alone, InnerEntriesLaw, InnerOnceLaw, InnerTestLaw, InnerPartLaw, InnerUnitsLaw, both_end}
 use Rattle.typst_grammar.specs.Pieces.{given}
 use Rattle.typst_edits.specs.Frame.{inner as block_inner, inner}
-use Rattle.typst_edits.specs.InnerPiecesTest.{InnerEntriesLaw, InnerOnceLaw, InnerTestLaw, InnerPartLaw, InnerUnitsLaw}
-use Rattle.typst_edits.specs.RunBytes.{both_end}
 use Rattle.typst_language.specs.declared.calls.Block.TheVariants as block
 use Rattle.typst_edits.specs.InnerJoint.{BeginsPast}
 use Rattle.typst_edits.proofs.Leading.{no-errors}
@@ -23,7 +20,6 @@ use Rattle.typst_edits.proofs.RunPieces.{take-past, takes-of}
 use Rattle.typst_edits.proofs.Seen.{end-shift}
 use Rattle.typst_edits.proofs.Widths.{width-append, short}
 use Rattle.typst_edits.proofs.BlockRuns.{first-same}
-use Rattle.typst_edits.specs.PiecesTest.{CutOnceLaw, ReadLaw, RunEntriesLaw, RunGives, RunGivesLaw, RunPartLaw, end_alone, read_alone}
 use Rattle.typst_edits.proofs.Content.{tail-none}
 use Rattle.typst_edits.proofs.Boundary.{looks_in, each-ends, made-add, go-add}
 use Rattle.typst_edits.proofs.Cuts.{cuts-law}

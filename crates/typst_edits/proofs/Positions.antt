@@ -1,8 +1,6 @@
 -- What holds where an inner node of a block's kind stands among several nodes, and what of each token's node.
-use Rattle.std.proofs.Common.{◌≡◌, ◌⊎◌, inl, inr, ℕ, zero, suc, ◌+◌, ◌-◌, ◌<◌, ◌≤◌, Bool, true, false, ◌&&◌, ◌||◌, nat_le, List, [], ◌∷◌, ◌++◌, length, take, drop, length-take, None, refl, ap, sym, ◌∙◌, subst, arith, nat_lt, Option, Some}
-use Rattle.typst_edits.proofs.Words.{nat_tests, and_left, and_parts, is_error, same, Head, inner_head, SyntaxKind, hint_with, Tree, Forest, forest, error_of, with_kind, made_error, advised, inner_of, topped, all_advised, leaf_of, less, Level, hand_of, Outcome, plain, joined, entered, asked, run, taken_node, done, hand_asks_of, hinted, NodeChange, is_delimited, without_parens, first_changed, Shape, shaped, Making, after_node, hinted_last, renamed_last, parens_renamed, stays, turns_wrong, is_not, renamed, unparened, keeps, holds, lacks, warns, fails, on_both, on_if, is_ordinary, change_by, shape_by, Deep, fill, path_in, Hole, plug, warned_head, under, SyntaxMode, CharClasses, Place, moved, token_node, Token, Reading, Point, Trivia, pending, Ahead, ahead, ahead_by, after_trivia, direct, hand_at, token_at, len_at, at_trivia, as_at_hand, text_ahead, itself, surprise, of_kind, flush_trivia, close_if, takes, markup_reading, inner, look_again, bracket, inner_tail, inner_close, Every, last_node, made_expected, drop-all, is_block_head, codes, raw_node, hints, message, access_node}
+use Rattle.typst_edits.proofs.Cited.{◌≡◌, ◌⊎◌, inl, inr, ℕ, zero, suc, ◌+◌, ◌-◌, ◌<◌, ◌≤◌, Bool, true, false, ◌&&◌, ◌||◌, nat_le, List, [], ◌∷◌, ◌++◌, length, take, drop, length-take, None, refl, ap, sym, ◌∙◌, subst, arith, nat_lt, Option, Some, nat_tests, and_left, and_parts, is_error, same, Head, inner_head, SyntaxKind, hint_with, Tree, Forest, forest, error_of, with_kind, made_error, advised, inner_of, topped, all_advised, leaf_of, less, Level, hand_of, Outcome, plain, joined, entered, asked, run, taken_node, done, hand_asks_of, hinted, NodeChange, is_delimited, without_parens, first_changed, Shape, shaped, Making, after_node, hinted_last, renamed_last, parens_renamed, stays, turns_wrong, is_not, renamed, unparened, keeps, holds, lacks, warns, fails, on_both, on_if, is_ordinary, change_by, shape_by, Deep, fill, path_in, Hole, plug, warned_head, under, SyntaxMode, CharClasses, Place, moved, token_node, Token, Reading, Point, Trivia, pending, Ahead, ahead, ahead_by, after_trivia, direct, hand_at, token_at, len_at, at_trivia, as_at_hand, text_ahead, itself, surprise, of_kind, flush_trivia, close_if, takes, markup_reading, inner, look_again, bracket, inner_tail, inner_close, Every, last_node, made_expected, drop-all, is_block_head, codes, raw_node, hints, message, access_node, making_by}
 use Rattle.typst_language.specs.Shape.{made}
-use Rattle.typst_grammar.proofs.Fine.{making_by}
 use Rattle.typst_edits.specs.Hole.Deep.{bare}
 use Rattle.typst_language.specs.Shape.Making.{wanted}
 use Rattle.typst_tree.specs.Messages.{made_unexpected, unexpected_message}
@@ -47,14 +45,6 @@ Clean ts = Each Nowhere 0 (forest ts)
 unless-by : (b : Bool) (P Q : Type 0) → (P → Q) → Unless b P → Unless b Q
 unless-by true P Q f h = h
 unless-by false P Q f h = f h
-
-unless-true : (b : Bool) (P Q : Type 0) → b ≡ true → Unless b P → Q
-unless-true true P Q e h = elim h [ ]
-unless-true false P Q e h = absurd (cc)
-
-unless-false : (b : Bool) (P : Type 0) → b ≡ false → P → Unless b P
-unless-false true P e h = absurd (cc)
-unless-false false P e h = h
 
 pub each-by : (P Q : ℕ → List ℕ → Type 0) (n : ℕ) (f : Forest) → ((i : ℕ) (q : List ℕ) → P i q → Q i q) → Each P n f → Each Q n f
 each-by P Q n none g h = tt
@@ -128,21 +118,12 @@ not-error k h = grind arith
 not-block : (k : SyntaxKind) (b : Bool) → is_ordinary k ≡ true → (b && is_block k) ≡ true → ⊥
 not-block k b h e = grind arith
 
-error-no-block : (k : SyntaxKind) (b : Bool) → is_error k ≡ true → (b && is_block k) ≡ true → ⊥
-error-no-block kind.Error true h e = cc
-error-no-block kind.Error false h e = cc
-error-no-block _ b h e = absurd (cc)
-
 -- No block stands in an error.
 each-error : (P Q : ℕ → List ℕ → Type 0) (n : ℕ) (t : Tree) (r : Forest) → is_error t.head.kind ≡ true → Each P n (more t.head t.kids r) → Each Q (suc n) r → Each Q n (more t.head t.kids r)
 each-error P Q n t r e h k = grind arith
 
 pub each-leaf : (Q : ℕ → List ℕ → Type 0) (n : ℕ) (h : Head) (r : Forest) → h.is_inner ≡ false → Each Q (suc n) r → Each Q n (more h none r)
 each-leaf Q n h r e k = (λ u. (let none : true ≡ false = sym u ∙ and_left h.is_inner (is_block h.kind) e in absurd (cc)), (tt, k))
-
-advised-leaf : (Q : ℕ → List ℕ → Type 0) (n : ℕ) (hints : List (List ℕ)) (message text : List ℕ) (r : Forest) → Each Q (suc n) r
-    → Each Q n (more (all_advised hints (error_of message text)).head (all_advised hints (error_of message text)).kids r)
-advised-leaf Q n hints message text r k = each-advised Q n hints (error_of message text) r (each-leaf Q n (error_of message text).head r refl k)
 
 pub each-wrong : (P Q : ℕ → List ℕ → Type 0) (n : ℕ) (message : List ℕ) (t : Tree) (r : Forest) → Each P n (more t.head t.kids r) → Each Q (suc n) r → Each Q n (more (made_error message t).head (made_error message t).kids r)
 each-wrong P Q n message t r h k = grind arith

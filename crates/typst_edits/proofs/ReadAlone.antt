@@ -1,8 +1,5 @@
 -- Pieces of a run that are read by themselves on a new text are those that the run has there: for any run.
-use Rattle.std.proofs.Common.{◌≡◌, ℕ, zero, suc, ◌+◌, ◌<◌, if◌then◌else◌, ne_eqb, Bool, true, List, [], ◌∷◌, ◌++◌, length, drop, Some, refl, ap, sym, ◌∙◌, subst, arith}
-use Rattle.typst_edits.proofs.Words.{Place, moved, CharClasses, Tree, Outcome, Trivia, Point, gap_of, pending, hinted, moved-sum, drop-all, together, text_with, Run, read_as, opened_by, cut_at, end_by, is_over, nodes_now, Agrees, Before, After, first_place, TakesNone, fresh, read_again, AllGo, End, end_of, Sequence, first_of, first_end, then_of, then_end}
-use Rattle.typst_edits.specs.OneReading.{again_end}
-use Rattle.typst_edits.specs.PiecesTest.{GivesPieces, ReadsPieces, end_alone, read_alone}
+use Rattle.typst_edits.proofs.Cited.{◌≡◌, ℕ, zero, suc, ◌+◌, ◌<◌, if◌then◌else◌, ne_eqb, Bool, true, List, [], ◌∷◌, ◌++◌, length, drop, Some, refl, ap, sym, ◌∙◌, subst, arith, Place, moved, CharClasses, Tree, Outcome, Trivia, Point, gap_of, pending, hinted, moved-sum, drop-all, together, text_with, Run, read_as, opened_by, cut_at, end_by, is_over, nodes_now, Agrees, Before, After, first_place, TakesNone, fresh, read_again, AllGo, End, end_of, Sequence, first_of, first_end, then_of, then_end, GivesPieces, ReadsPieces, end_alone, read_alone, again_end}
 use Rattle.typst_grammar.specs.Pieces.{given}
 use Rattle.typst_edits.proofs.Turns.{none-less}
 use Rattle.typst_edits.proofs.Children.{given-together}

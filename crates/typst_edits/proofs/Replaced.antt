@@ -1,17 +1,11 @@
 -- Children replaced: an equal front stays as it stands, and spans aside they are those exchanged.
-use Rattle.std.proofs.Common.{◌≡◌, ℕ, zero, suc, true, ◌+◌, ◌-◌, List, [], ◌∷◌, ◌++◌, length, take, drop, map, Option, refl, ap, sym, ◌∙◌, arith, length-append}
-use Rattle.typst_edits.proofs.Words.{option_map, slice_get, map-append, drop-map, take-map, Head, bare_head, Forest, none, more, Tree, forest, trees, bare, bare_forest, replaced_at, At, kids_of, put_at, AtPath, forest_trees, with_children, alter, drop-append-add, SpanValue, Begins}
-use Rattle.std.specs.Prelude.{option_and_then, slice_set, slice_range}
-use Rattle.std.proofs.lemmas.List.{drop-drop}
-use Rattle.typst_tree.specs.Tree.{at_tree}
+use Rattle.typst_edits.proofs.Cited.{◌≡◌, ℕ, zero, suc, true, ◌+◌, ◌-◌, List, [], ◌∷◌, ◌++◌, length, take, drop, map, Option, refl, ap, sym, ◌∙◌, arith, length-append, option_map, slice_get, map-append, drop-map, take-map, Head, bare_head, Forest, none, more, Tree, forest, trees, bare, bare_forest, replaced_at, At, kids_of, put_at, AtPath, forest_trees, with_children, alter, drop-append-add, SpanValue, Begins, option_and_then, slice_set, slice_range, drop-drop, at_tree, take-nil, replaces_children}
 use Rattle.typst_tree.specs.Replace.{with_kids, middle, back, swapped, in_file}
 use Rattle.typst_tree.proofs.SpansAside.{forest_bare}
 use Rattle.typst_edits.specs.Children.{exchanged as exchanged_nodes}
-use Rattle.std.proofs.Math.Seq.{take-nil}
 use Rattle.typst_edits.specs.Replaced.{FrontLaw, ReplacedLaw, PutLaw, ExchangedLaw}
 use Rattle.typst_tree.specs.Same.{same_tree, front}
 use Rattle.typst_tree.proofs.SameTree.{same_from_bare}
-use Rattle.typst_tree.proofs.ReplacesChildren.{replaces_children}
 
 -- ---- an equal front
 

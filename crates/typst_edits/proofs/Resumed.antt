@@ -1,7 +1,5 @@
 -- Pieces that are read again from their first token are those that stood there, and their number follows from where they end.
-use Rattle.std.proofs.Common.{◌≡◌, ℕ, zero, suc, ◌+◌, ◌<◌, ◌&&◌, Bool, true, false, nat_lt, List, [], ◌∷◌, ◌++◌, None, Some, refl, ap, sym, ◌∙◌, subst, arith}
-use Rattle.typst_edits.proofs.Words.{ltb-true, lt-ltb, and_parts, SyntaxKind, Place, moved, CharClasses, is_end, as_at_hand, at_trivia, hand_at, Trivia, Point, gap_of, no_newlines, peek, Outcome, Meaning, Level, start_point, asked, hand_of, run, hand-takes, moved-sum, ends, ends_block, markup_turn, markup_head, markup_reading, rules, level_at, max_depth, inner, bracket, inner_lead, inner_run, first_place, minds_at, minds, text_run, goes, fresh, read_again, SamePiece, SamePieces, made, AllGo, end_of, lead, start, Sequence, turn_of, first_of, first_end, then_of, then_end, IsRun, is_text_run, is_block_run}
-use Rattle.typst_edits.specs.Resumed.{ResumeLaw, CountLaw}
+use Rattle.typst_edits.proofs.Cited.{◌≡◌, ℕ, zero, suc, ◌+◌, ◌<◌, ◌&&◌, Bool, true, false, nat_lt, List, [], ◌∷◌, ◌++◌, None, Some, refl, ap, sym, ◌∙◌, subst, arith, ltb-true, lt-ltb, and_parts, SyntaxKind, Place, moved, CharClasses, is_end, as_at_hand, at_trivia, hand_at, Trivia, Point, gap_of, no_newlines, peek, Outcome, Meaning, Level, start_point, asked, hand_of, run, hand-takes, moved-sum, ends, ends_block, markup_turn, markup_head, markup_reading, rules, level_at, max_depth, inner, bracket, inner_lead, inner_run, first_place, minds_at, minds, text_run, goes, fresh, read_again, SamePiece, SamePieces, made, AllGo, end_of, lead, start, Sequence, turn_of, first_of, first_end, then_of, then_end, IsRun, is_text_run, is_block_run, ResumeLaw, CountLaw}
 use Rattle.typst_edits.proofs.BlockModes.{hand-first}
 use Rattle.typst_edits.proofs.Boundary.{KnownAt, first-of, turn-known, going-on, known-made}
 use Rattle.typst_edits.proofs.Every.{neither}

@@ -1,14 +1,9 @@
 -- Marks don't go back and lie within what is taken, and after one where a block begins the next lies further on.
-use Rattle.std.proofs.Common.{◌≡◌, ℕ, suc, ◌+◌, ◌≤◌, Bool, true, false, List, [], ◌∷◌, ◌++◌, refl, arith, zero, max, min, length, take, Option, Some, None, ap, sym, ◌∙◌, subst}
-use Rattle.typst_edits.proofs.Words.{Place, moved, Block, Call, Mark, State, Ask, shift, sunk, only_looks, looked, marked, Point, state_of, gap_of, forgot, Trivia, Op, Parser, ◌>>◌, ◌>>=◌, hand, so, further, column, erred, takes, takes_so, flushes, complains, advises, marks, is_deepest, gives, does, next, pick, repeat, wraps, grows, nests, scoped, either, calls, block, Outcome, Meaning, Level, plain, joined, bound, repeated, before, growing, nesting, given_up, bounded, entered, hand_asks_of, done, run, wrapped, blockless, start_point, hand_of, asked, on_both, on_if, Guarded, op_notes, CharClasses, width, position, far, near, Note, Reading, meaning_of, level_of, blocks_of, Shape, peek, node, eat, eat_making, ahead-left, moved-sum, rules, production, max_depth, start_of, whole, parsed, log, block_production, markup_reading, content_block, listed, is_end, Hand, token_at, len_at, ahead, hand_at, itself, hand-takes, hand-again, token-ends, token-takes, Sane, sane-run, sane-at, sane-meaning, sane-block, sane-plain, code_block, code_reading, guarded-production, guarded-inside-code, SyntaxMode, at_token, is_opening, Rising}
-use Rattle.typst_grammar.proofs.Guarded.{sees, guarded-inside-content, guarded-whole}
+use Rattle.typst_edits.proofs.Cited.{◌≡◌, ℕ, suc, ◌+◌, ◌≤◌, Bool, true, false, List, [], ◌∷◌, ◌++◌, refl, arith, zero, max, min, length, take, Option, Some, None, ap, sym, ◌∙◌, subst, Place, moved, Block, Call, Mark, State, Ask, shift, sunk, only_looks, looked, marked, Point, state_of, gap_of, forgot, Trivia, Op, Parser, ◌>>◌, ◌>>=◌, hand, so, further, column, erred, takes, takes_so, flushes, complains, advises, marks, is_deepest, gives, does, next, pick, repeat, wraps, grows, nests, scoped, either, calls, block, Outcome, Meaning, Level, plain, joined, bound, repeated, before, growing, nesting, given_up, bounded, entered, hand_asks_of, done, run, wrapped, blockless, start_point, hand_of, asked, on_both, on_if, Guarded, op_notes, CharClasses, width, position, far, near, Note, Reading, meaning_of, level_of, blocks_of, Shape, peek, node, eat, eat_making, ahead-left, moved-sum, rules, production, max_depth, start_of, whole, parsed, log, block_production, markup_reading, content_block, listed, is_end, Hand, token_at, len_at, ahead, hand_at, itself, hand-takes, hand-again, token-ends, token-takes, Sane, sane-run, sane-at, sane-meaning, sane-block, sane-plain, code_block, code_reading, guarded-production, guarded-inside-code, SyntaxMode, at_token, is_opening, Rising, sees, guarded-inside-content, guarded-whole, not-true, some-ahead, ◌<◌}
 use Rattle.typst_edits.specs.Rising.{RisingLaw}
 use Rattle.typst_edits.proofs.Bytes.{AllMarks, marks-append, marks-shift, none-hand, none_yet, note_by, notes_from, fresh_notes, logged-listed}
 use Rattle.typst_edits.proofs.Traversal.{Parts, all-turns, all-growths, all-nestings}
-use Rattle.std.specs.Prelude.{◌<◌}
 use Rattle.typst_edits.proofs.Widths.{width-moved, width-none, take-width as take-all, take-more, take-behind}
-use Rattle.std.proofs.lemmas.Bool.{not-true}
-use Rattle.typst_grammar.proofs.Firsts.{some-ahead}
 use Rattle.typst_language.specs.declared.calls.Mark.TheVariants as mark
 use Rattle.typst_language.specs.declared.calls.Block.TheVariants as block
 

@@ -1,6 +1,5 @@
 -- A candidate among the children of a run is pieces of it: at the top of a text's tree those of the text's run.
-use Rattle.std.proofs.Common.{◌≡◌, ◌↔◌, ℕ, zero, suc, ◌+◌, ◌-◌, ◌<◌, ◌≤◌, Bool, true, false, List, [], ◌∷◌, ◌++◌, length, length-append, append_assoc, take, Some, refl, ap, sym, ◌∙◌, subst, arith, inl, inr}
-use Rattle.typst_edits.proofs.Words.{Place, CharClasses, Tree, width, Trivia, gap_of, is_among, ChildRange, Candidate, begins, IsPieces, RootPiecesOfLaw, text_with, Run, read_as, opened_by, cut_at, is_over, bytes_of, AllGo, End, Sequence, turn_of, first_of, first_end, then_of, then_end, root_run, cases_lt, token_after, token_past, run_from, kids_of_run, first_place}
+use Rattle.typst_edits.proofs.Cited.{◌≡◌, ◌↔◌, ℕ, zero, suc, ◌+◌, ◌-◌, ◌<◌, ◌≤◌, Bool, true, false, List, [], ◌∷◌, ◌++◌, length, length-append, append_assoc, take, Some, refl, ap, sym, ◌∙◌, subst, arith, inl, inr, Place, CharClasses, Tree, width, Trivia, gap_of, is_among, ChildRange, Candidate, begins, IsPieces, RootPiecesOfLaw, text_with, Run, read_as, opened_by, cut_at, is_over, bytes_of, AllGo, End, Sequence, turn_of, first_of, first_end, then_of, then_end, root_run, cases_lt, token_after, token_past, run_from, kids_of_run, first_place}
 use Rattle.typst_edits.proofs.Boundary.{KnownAt}
 use Rattle.typst_edits.proofs.CandidateEnds.{stretch, begins-last, from-less, from-cut, from-early, to-cut, to-late, Parted, begun}
 use Rattle.typst_edits.proofs.RunCandidates.{IsCut, OfRun, run-of, run-parted}

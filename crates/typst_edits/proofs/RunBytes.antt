@@ -1,10 +1,6 @@
 -- The test of an edit inside some pieces of a run in bytes, by the notes of a reading: of any run, of a text's and of a content block's.
-use Rattle.std.proofs.Common.{◌≡◌, ℕ, zero, suc, ◌+◌, ◌-◌, ◌<◌, ◌≤◌, ◌^◌, Bool, true, List, [], ◌∷◌, ◌++◌, length, take, append_assoc, refl, ap, sym, ◌∙◌, subst, arith, append-nil, Some}
-use Rattle.typst_edits.proofs.Words.{Place, moved, CharClasses, width, Ask, shift, Point, gap_of, state_of, Trivia, point_of, max_depth, start_of, parsed, log, rules, whole, highest, lowest, AllEndBy, text_with, AllBeginIn, note_at, looks_next, cut_after, AllGo, End, asks_of, chain, piece_at, start, lead, pieces, end_at, pieces_from, end_from, rest_from, tail, whole_of, after_pieces, Sequence, turn_of, first_of, first_end, then_of, then_end, rest_of, noting, notes_in, Spot, unit_at, around, ended, Outcome, repeated, run, start_point, moved-sum, text_run, onwards_at, run_mark, asked_past, map-append, Mark, State, ends_block, markup_turn, markup_reading, look_first, look_again, bracket, inner_lead, inner_run, inner_tail, inner_close, run_at, opened_at, tail_at, close_at, left_at, inner_both, onwards_past, left_past, blocks_of_text, block_at, PieceNote}
-use Rattle.typst_edits.specs.InnerSplice.{noted_at}
-use Rattle.typst_edits.specs.JointBytes.{JointDecisionLaw}
+use Rattle.typst_edits.proofs.Cited.{◌≡◌, ℕ, zero, suc, ◌+◌, ◌-◌, ◌<◌, ◌≤◌, ◌^◌, Bool, true, List, [], ◌∷◌, ◌++◌, length, take, append_assoc, refl, ap, sym, ◌∙◌, subst, arith, append-nil, Some, Place, moved, CharClasses, width, Ask, shift, Point, gap_of, state_of, Trivia, point_of, max_depth, start_of, parsed, log, rules, whole, highest, lowest, AllEndBy, text_with, AllBeginIn, note_at, looks_next, cut_after, AllGo, End, asks_of, chain, piece_at, start, lead, pieces, end_at, pieces_from, end_from, rest_from, tail, whole_of, after_pieces, Sequence, turn_of, first_of, first_end, then_of, then_end, rest_of, noting, notes_in, Spot, unit_at, around, ended, Outcome, repeated, run, start_point, moved-sum, text_run, onwards_at, run_mark, asked_past, map-append, Mark, State, ends_block, markup_turn, markup_reading, look_first, look_again, bracket, inner_lead, inner_run, inner_tail, inner_close, run_at, opened_at, tail_at, close_at, left_at, inner_both, onwards_past, left_past, blocks_of_text, block_at, PieceNote, JointDecisionLaw, noted_at, RunDecisionLaw}
 use Rattle.typst_edits.specs.InnerBytes.{InnerDecisionLaw}
-use Rattle.typst_edits.specs.RunBytes.{RunDecisionLaw}
 use Rattle.typst_edits.proofs.Boundary.{Begins, begins-shift, looks_in, each-ends, made-add, go-add, noted-at, begins-append, pieces-begin, piece_mark}
 use Rattle.typst_edits.proofs.Bytes.{AllFrom, begin-by, begin-to, AllMarks, none-hand, marks-append}
 use Rattle.typst_edits.proofs.EmptyRuns.{Never}

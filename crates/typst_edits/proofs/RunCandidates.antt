@@ -1,6 +1,5 @@
 -- A candidate among the nodes of a run begins well, by what the run's pieces give: at the top of a text's tree and in a content block.
-use Rattle.std.proofs.Common.{◌≡◌, ◌↔◌, ℕ, suc, ◌+◌, ◌<◌, ◌≤◌, true, false, List, length, Option, Some, ap, sym, ◌∙◌, subst, arith, inl, inr, zero, Bool, [], ◌++◌, take, refl, ◌-◌, ◌∷◌, length-append, append_assoc, None}
-use Rattle.typst_edits.proofs.Words.{Tree, none, trees, bare, Forest, more, text_of, Trivia, pending, gap_of, Candidate, begins, is_among, of_run, Child, laid, child_at, Every, is_over, first_place, GoesOnWell, StartsWell, StandsAt, AllGo, End, lead, pieces, end_at, Sequence, turn_of, first_of, first_end, then_of, then_end, CharClasses, width, Outcome, after_first, top_cuts, cuts_in, max_depth, start_of, tree, log, Settles, standing_by, Among, text_with, onwards_at, bytes_of, opening_child, of_level, cut_after, goes, listed, inner_head, Note, texts, candidates, opened_at, fill, path_of, under, block_with, inner_end, block_run, Around, kids_in, markup_from, blocks_of_text, OpensApartLaw, Spot, unit_at, Run, top, read_as, opened_by, path_to, token_after, token_past, run_from, kids_of_run, TakesSome, Encloses, IsRun, root_run}
+use Rattle.typst_edits.proofs.Cited.{◌≡◌, ◌↔◌, ℕ, suc, ◌+◌, ◌<◌, ◌≤◌, true, false, List, length, Option, Some, ap, sym, ◌∙◌, subst, arith, inl, inr, zero, Bool, [], ◌++◌, take, refl, ◌-◌, ◌∷◌, length-append, append_assoc, None, Tree, none, trees, bare, Forest, more, text_of, Trivia, pending, gap_of, Candidate, begins, is_among, of_run, Child, laid, child_at, Every, is_over, first_place, GoesOnWell, StartsWell, StandsAt, AllGo, End, lead, pieces, end_at, Sequence, turn_of, first_of, first_end, then_of, then_end, CharClasses, width, Outcome, after_first, top_cuts, cuts_in, max_depth, start_of, tree, log, Settles, standing_by, Among, text_with, onwards_at, bytes_of, opening_child, of_level, cut_after, goes, listed, inner_head, Note, texts, candidates, opened_at, fill, path_of, under, block_with, inner_end, block_run, Around, kids_in, markup_from, blocks_of_text, OpensApartLaw, Spot, unit_at, Run, top, read_as, opened_by, path_to, token_after, token_past, run_from, kids_of_run, TakesSome, Encloses, IsRun, root_run}
 use Rattle.typst_tree.specs.Tree.{joined}
 use Rattle.typst_edits.proofs.Boundary.{looks_in, each-ends, made-add, go-add, known-made}
 use Rattle.typst_edits.proofs.CandidateEnds.{stretch, GivesAt, GivesOne, Parted, Quiet, begun, parted, run-quiet}

@@ -1,7 +1,5 @@
 -- The entries of a run, by their numbers: of a text's run and of a content block's.
-use Rattle.std.proofs.Common.{◌≡◌, ℕ, suc, ◌+◌, ◌≤◌, ◌==◌, Bool, true, false, List, [], append-nil, refl, ap, sym, ◌∙◌, subst, arith, ◌-◌, ◌<◌, ◌∷◌, ◌++◌, length, drop, length-append, append_assoc, Some}
-use Rattle.typst_edits.proofs.Words.{eqb-true, eqb-false, moved, Place, CharClasses, Note, Meaning, hand_of, run, moved-sum, entries_by, IsRising, ends, max_depth, start_of, log, entries_in, SaysBlock, is_over, InOrderLaw, text_run, of_level, NumberedInner, goes, listed, number_of, RunNumbersLaw, number_in, InnerNumbersLaw, cut_of, cut_in, AllGo, pieces, piece_at, end_at, lead, asks_of, Sequence, turn_of, first_of, first_end, then_end, Block, shift, point_of, closing_of, run_at, Among, inner_end, blocks_of_text, BeginsAt, notes_in, Spot, is_text_run, is_block_run}
-use Rattle.typst_edits.specs.NumberedNotes.{NumberedRun}
+use Rattle.typst_edits.proofs.Cited.{◌≡◌, ℕ, suc, ◌+◌, ◌≤◌, ◌==◌, Bool, true, false, List, [], append-nil, refl, ap, sym, ◌∙◌, subst, arith, ◌-◌, ◌<◌, ◌∷◌, ◌++◌, length, drop, length-append, append_assoc, Some, eqb-true, eqb-false, moved, Place, CharClasses, Note, Meaning, hand_of, run, moved-sum, entries_by, IsRising, ends, max_depth, start_of, log, entries_in, SaysBlock, is_over, InOrderLaw, text_run, of_level, NumberedInner, goes, listed, number_of, RunNumbersLaw, number_in, InnerNumbersLaw, cut_of, cut_in, AllGo, pieces, piece_at, end_at, lead, asks_of, Sequence, turn_of, first_of, first_end, then_end, Block, shift, point_of, closing_of, run_at, Among, inner_end, blocks_of_text, BeginsAt, notes_in, Spot, is_text_run, is_block_run, NumberedRun, lt_of_le-ne}
 use Rattle.typst_edits.proofs.BlockTest.{BlockEntries, block-entries, units-listed}
 use Rattle.typst_edits.proofs.Boundary.{looks_in, each-ends, made-add, first-of, going-on, known-made}
 use Rattle.typst_edits.proofs.Cuts.{cuts-law, inner-cuts-law, few-go}
@@ -13,7 +11,6 @@ use Rattle.typst_edits.proofs.NumberedNotes.{go-fewer, go-next, number-law, numb
 use Rattle.typst_edits.proofs.RunBytes.{text-note, text-count, asks_before, asks_first, inner_run_mark as run_mark, opened, inner_asks_by as asks_by, block-asks, inner-decision-law, cut-here}
 use Rattle.typst_language.specs.declared.calls.Block.TheVariants as block
 use Rattle.typst_edits.proofs.Splice.{count-append, count-shift}
-use Rattle.std.proofs.Math.Arith.{lt_of_le-ne}
 use Rattle.typst_edits.proofs.Every.{neither}
 
 -- ---- where a run is over

@@ -1,9 +1,7 @@
 -- Where a run that is read by itself ends, no more pieces go on.
-use Rattle.std.proofs.Common.{◌≡◌, ℕ, suc, ◌+◌, ◌<◌, ◌≤◌, Bool, true, false, nat_lt, length, sym, ◌∙◌, arith}
-use Rattle.typst_edits.proofs.Words.{moved, CharClasses, Block, Meaning, Level, start_point, run, gap_of, Within, peek, Sane, sane-run, sane-meaning, sane-block, sane-plain, RunKind, rules, markup_turn, markup_reading, first_look, run_level, stops_of, end_on}
+use Rattle.typst_edits.proofs.Cited.{◌≡◌, ℕ, suc, ◌+◌, ◌<◌, ◌≤◌, Bool, true, false, nat_lt, length, sym, ◌∙◌, arith, moved, CharClasses, Block, Meaning, Level, start_point, run, gap_of, Within, peek, Sane, sane-run, sane-meaning, sane-block, sane-plain, RunKind, rules, markup_turn, markup_reading, first_look, run_level, stops_of, end_on, IsOver}
 use Rattle.typst_grammar.specs.Pieces.{AllGo, blocks_in}
 use Rattle.typst_grammar.specs.declared.part.RunKind.TheVariants as of
-use Rattle.typst_grammar.specs.Part.{IsOver}
 use Rattle.typst_edits.specs.RunTest.{Reading, read_by, OverLaw}
 use Rattle.typst_edits.proofs.Boundary.{first-of, stopped-is}
 use Rattle.typst_edits.proofs.NumberedNotes.{go-fewer, go-next, turns-within}

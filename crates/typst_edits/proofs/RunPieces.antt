@@ -1,9 +1,6 @@
 -- Pieces that pass the test, at the root or in a content block: a candidate's place is that of their nodes.
-use Rattle.std.proofs.Common.{inl, eq-zero-or-pos, eq-eqb, ◌≡◌, inr, ℕ, suc, ◌+◌, ◌<◌, ne_eqb, if◌then◌else◌, Bool, true, false, List, [], ◌++◌, length, take, drop, length-append, ap, sym, ◌∙◌, subst, arith, ◌-◌, Some}
-use Rattle.std.proofs.Math.Seq.{take-append-add}
-use Rattle.typst_edits.proofs.Words.{CharClasses, Tree, put_at, width, Outcome, less, Trivia, gap_of, point_of, less-none, Candidate, tree, max_depth, with_children, read_by, standing_by, nodes_after, text_with, Among, is_over, Agrees, PassesPieces, Run, end_by, GoesOnWell, text_run, PassesJoint, LeadsAt, root_run, StandsAt, AllGo, chain, Place, moved, run_at, tail_at, close_at, left_past, block_run, blocks_of_text, first_of, first_end, then_of, then_end, rest_of, Spot, unit_at, read_as, cut_at, opened_by, trivia_before, top, path_to, Encloses, TakesSome, token_after, token_past, run_from, kids_of_run, given, then_place}
+use Rattle.typst_edits.proofs.Cited.{inl, eq-zero-or-pos, eq-eqb, ◌≡◌, inr, ℕ, suc, ◌+◌, ◌<◌, ne_eqb, if◌then◌else◌, Bool, true, false, List, [], ◌++◌, length, take, drop, length-append, ap, sym, ◌∙◌, subst, arith, ◌-◌, Some, take-append-add, CharClasses, Tree, put_at, width, Outcome, less, Trivia, gap_of, point_of, less-none, Candidate, tree, max_depth, with_children, read_by, standing_by, nodes_after, text_with, Among, is_over, Agrees, PassesPieces, Run, end_by, GoesOnWell, text_run, PassesJoint, LeadsAt, root_run, StandsAt, AllGo, chain, Place, moved, run_at, tail_at, close_at, left_past, block_run, blocks_of_text, first_of, first_end, then_of, then_end, rest_of, Spot, unit_at, read_as, cut_at, opened_by, trivia_before, top, path_to, Encloses, TakesSome, token_after, token_past, run_from, kids_of_run, given, then_place, Meets}
 use Rattle.typst_edits.specs.Frame.{inner}
-use Rattle.typst_edits.specs.Joint.{Meets}
 use Rattle.typst_edits.specs.RunPieces.{PiecesLaw}
 use Rattle.typst_edits.proofs.Children.{children-law}
 use Rattle.typst_edits.proofs.Heads.{meets-law, inner-meets-law, none-back-law, none-behind-law}

@@ -1,9 +1,7 @@
 -- The units of a text with an edit inside a block, and inside some pieces of a run, its own or a content block's.
-use Rattle.std.proofs.Common.{◌≡◌, ℕ, suc, ◌+◌, ◌≤◌, List, [], ◌∷◌, ◌++◌, length, ap, sym, ◌∙◌, subst, arith, ◌==◌, inl, inr, zero, ◌-◌, ◌<◌, ◌^◌, Bool, true, map, append_assoc, Some, refl, ◌&&◌, if◌then◌else◌, false, None, eq-zero-or-pos}
-use Rattle.typst_edits.proofs.Words.{units_of, spliced, moved, Place, position, width, Ask, shift, SameIn, shift_one, marked, looked, no_log, logged, Outcome, start_point, hand_of, hand_asks_of, repeated, run, state_of, Trivia, Point, gap_of, point_of, markup_reading, ends, rules, max_depth, whole, parsed, log, level_at, start_of, text_with, AllEndBy, AllBeginIn, Noting, noting, notes_in, entries_from, token_start, block_log, closing, Spot, unit_at, lowered, lower, map-append, same, Entry, CharClasses, Look, look, no_look, is_end, AtHand, Hand, as_at_hand, hand_at, at_trivia, ahead, asks_by, ahead_asks, hand_asks, peek, sane-at, AllFrom, passed, onwards, text_run, place_from, onwards_at, asked_past, end_note, OverAt, run_mark, start, AllGo, asks_of, chain, lead, pieces, end_at, pieces_from, end_from, rest_from, tail, whole_of, Sequence, turn_of, first_of, first_end, then_of, then_end, then_place, rest_of, note_at, looks_next, own_of, token, same_in-shift, same_in-first, same_in-second, moved-sum, inner, look_first, look_again, bracket, inner_lead, inner_run, content_with, run_at, tail_at, close_at, onwards_past, left_past, hand-ends}
+use Rattle.typst_edits.proofs.Cited.{◌≡◌, ℕ, suc, ◌+◌, ◌≤◌, List, [], ◌∷◌, ◌++◌, length, ap, sym, ◌∙◌, subst, arith, ◌==◌, inl, inr, zero, ◌-◌, ◌<◌, ◌^◌, Bool, true, map, append_assoc, Some, refl, false, None, eq-zero-or-pos, units_of, spliced, moved, Place, position, width, Ask, shift, SameIn, shift_one, marked, looked, no_log, logged, Outcome, start_point, hand_of, hand_asks_of, repeated, run, state_of, Trivia, Point, gap_of, point_of, markup_reading, ends, rules, max_depth, whole, parsed, log, level_at, start_of, text_with, AllEndBy, AllBeginIn, Noting, noting, notes_in, entries_from, token_start, block_log, closing, Spot, unit_at, lowered, lower, map-append, same, Entry, CharClasses, Look, look, no_look, is_end, AtHand, Hand, as_at_hand, hand_at, at_trivia, ahead, ahead_asks, hand_asks, peek, sane-at, AllFrom, passed, onwards, text_run, place_from, onwards_at, asked_past, end_note, OverAt, run_mark, start, AllGo, asks_of, chain, lead, pieces, end_at, pieces_from, end_from, rest_from, tail, whole_of, Sequence, turn_of, first_of, first_end, then_of, then_end, then_place, rest_of, note_at, looks_next, own_of, token, same_in-shift, same_in-first, same_in-second, moved-sum, inner, look_first, look_again, bracket, inner_lead, inner_run, content_with, run_at, tail_at, close_at, onwards_past, left_past, hand-ends, end_note_in, pieces_log_in, InnerSpliceLaw, AroundSpliceLaw}
 use Rattle.typst_edits.specs.BlockSplice.{BlockSpliceLaw}
 use Rattle.typst_edits.specs.RunSplice.{next_looks, own_asks, RunSpliceLaw}
-use Rattle.typst_edits.specs.InnerSplice.{end_note_in, pieces_log_in, InnerSpliceLaw, AroundSpliceLaw}
 use Rattle.typst_edits.proofs.Bytes.{asks-are, notes-one, notes-own, AllMarks, marks-append, logged-lowered}
 use Rattle.typst_edits.proofs.Seen.{AllSeen, seen-first, sees-level}
 use Rattle.typst_edits.proofs.Splice.{splice-law, Side, Last, entries_at, back_at, count-append, count-shift, each-bare, each-from, from-zero, bare-shift, side-none, side-by, same-at, last-at, splice-texts, count-none}
@@ -345,12 +343,6 @@ run-splice-law k front old new rest i n m past t u h over over_new big big_new =
     was now note_same (cuts.early (length front) h.before) both.one both.two cuts.count own_count
 
 -- ---- the look at a first token without trivia before it
-
-pub asks-direct : (k : CharClasses) (n : ℕ) (z : Place) → at_trivia k mode.Markup z ≡ false → asks_by k mode.Markup n z ≡ looked 0 (look (token k mode.Markup) z) ∷ []
-asks-direct k n z h = grind arith
-
-pub column-none : (b : Bool) (ask : Ask) → ◌≡◌ {A = List Ask} (if b && false then ask ∷ [] else []) []
-column-none b ask = grind arith
 
 pub hand-direct : (k : CharClasses) (z : Place) → at_trivia k mode.Markup z ≡ false → hand_asks k markup_reading None z ≡ looked 0 (look (token k mode.Markup) z) ∷ []
 unfolding hand_asks ahead_asks

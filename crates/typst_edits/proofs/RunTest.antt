@@ -1,15 +1,11 @@
 -- What the entries say of a run, and what is found of a candidate that is pieces of it: of a text's run and of a content block's.
-use Rattle.std.proofs.Common.{◌≡◌, ℕ, suc, ◌+◌, ◌-◌, ◌<◌, ◌≤◌, List, [], ◌∷◌, ◌++◌, length, take, ap, sym, ◌∙◌, arith, ◌↔◌, zero, ◌^◌, ◌==◌, ne_eqb, Bool, true, false, Some, refl, subst, if◌then◌else◌, drop, length-append, append_assoc, pos_of_ne-zero}
-use Rattle.typst_edits.proofs.Words.{take-append-le, append_cancel_right, CharClasses, width, position, Note, State, opening_of, max_depth, start_of, log, tree, entries_in, front_in, rear_in, entries_alone, Among, text_with, AllBeginIn, path_of, blocks_of_text, listed, number_of, RunNumbersLaw, number_in, InnerNumbersLaw, InnerNumbers, cut_of, RunNumbers, cut_in, notes_in, token_start, entries_from, Spot, unit_at, Place, moved, Tree, bare, no_log, logged, Trivia, gap_of, point_of, moved-sum, Entry, Candidate, units_of, entries_by, spliced, candidates, IsPieces, RootPiecesOfLaw, InnerPiecesOfLaw, Run, top, cut_at, is_over, nodes_now, Agrees, Before, After, PassesPieces, Gives, of_block, of_pieces, first_place, InOrderLaw, text_run, asked_past, cut_after, TakesNone, fresh, root_run, end_note, pieces_log, OverAt, notes_by, BeginsAt, IsLast, reading_on, nodes_by, PassesRead, made, AllGo, asks_of, start, lead, pieces, end_at, pieces_from, end_from, Sequence, turn_of, first_of, first_end, then_of, then_end, take-append_seam, start_at, closing_of, first_look, bracket, inner_run, run_at, EndsBefore, inner_end, left_past, block_run, Around, level_in, InnerPart, OpensApartLaw, true_from_ne_false, is_text_run, is_block_run, PassesJoint}
+use Rattle.typst_edits.proofs.Cited.{◌≡◌, ℕ, suc, ◌+◌, ◌-◌, ◌<◌, ◌≤◌, List, [], ◌∷◌, ◌++◌, length, take, ap, sym, ◌∙◌, arith, ◌↔◌, zero, ◌^◌, ◌==◌, ne_eqb, Bool, true, false, Some, refl, subst, if◌then◌else◌, drop, length-append, append_assoc, pos_of_ne-zero, take-append-le, append_cancel_right, CharClasses, width, position, Note, State, opening_of, max_depth, start_of, log, tree, entries_in, front_in, rear_in, entries_alone, Among, text_with, AllBeginIn, path_of, blocks_of_text, listed, number_of, RunNumbersLaw, number_in, InnerNumbersLaw, InnerNumbers, cut_of, RunNumbers, cut_in, notes_in, token_start, entries_from, Spot, unit_at, Place, moved, Tree, bare, no_log, logged, Trivia, gap_of, point_of, moved-sum, Entry, Candidate, units_of, entries_by, spliced, candidates, IsPieces, RootPiecesOfLaw, InnerPiecesOfLaw, Run, top, cut_at, is_over, nodes_now, Agrees, Before, After, PassesPieces, Gives, of_block, of_pieces, first_place, InOrderLaw, text_run, asked_past, cut_after, TakesNone, fresh, root_run, end_note, pieces_log, OverAt, notes_by, BeginsAt, IsLast, reading_on, nodes_by, PassesRead, made, AllGo, asks_of, start, lead, pieces, end_at, pieces_from, end_from, Sequence, turn_of, first_of, first_end, then_of, then_end, take-append_seam, start_at, closing_of, first_look, bracket, inner_run, run_at, EndsBefore, inner_end, left_past, block_run, Around, level_in, InnerPart, OpensApartLaw, true_from_ne_false, is_text_run, is_block_run, PassesJoint, RunTestLaw, FoundInner, InnerRunTestLaw, GivesPieces, RunEntries, read_alone, InnerEntries}
 use Rattle.typst_edits.specs.Frame.{inner}
-use Rattle.typst_edits.specs.RunTest.{RunTestLaw, FoundInner, InnerRunTestLaw}
-use Rattle.typst_edits.specs.InnerPiecesTest.{InnerEntries}
 use Rattle.typst_edits.proofs.BlockPlaces.{hole-same, split-same}
 use Rattle.typst_edits.proofs.Bytes.{decision-law}
 use Rattle.typst_edits.proofs.EntryNumbers.{some-number}
 use Rattle.typst_edits.proofs.Walk.{spot-place}
 use Rattle.typst_candidates.proofs.Walks.{rear-most}
-use Rattle.typst_edits.specs.PiecesTest.{GivesPieces, RunEntries, read_alone}
 use Rattle.typst_edits.specs.RunTest.LooksFrom.{nothing, closing as from_closing}
 use Rattle.typst_edits.proofs.Content.{tail-none}
 use Rattle.typst_edits.proofs.AnyRun.{entries-listed, AreWithin, found-by, room-by, ReadsFrom, Entered, passes-too, Read, UnitsBy, given-by, begins-now, read_from, found, looks_by, Span, Found, one-span, none-last, read-by}

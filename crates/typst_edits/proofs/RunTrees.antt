@@ -1,6 +1,5 @@
 -- A text's tree and log, where pieces of its run are exchanged.
-use Rattle.std.proofs.Common.{◌≡◌, ℕ, ◌+◌, Bool, true, false, List, [], ◌∷◌, ◌++◌, append_assoc, append-nil, refl, ap, sym, ◌∙◌, arith}
-use Rattle.typst_edits.proofs.Words.{map-append, Tree, forest, inner_of, Place, CharClasses, Ask, shift, no_log, logged, Outcome, plain, standing, joined, run, Level, Point, gap_of, state_of, less-none, max_depth, start_of, parsed, tree, log, level_at, text_with, onwards_at, text_run, given, run_mark, start, AllGo, End, end_of, asks_of, chain, lead, pieces, end_at, pieces_from, end_from, rest_from, tail, whole_of, peek, marked, run_of, standing-joined}
+use Rattle.typst_edits.proofs.Cited.{◌≡◌, ℕ, ◌+◌, Bool, true, false, List, [], ◌∷◌, ◌++◌, append_assoc, append-nil, refl, ap, sym, ◌∙◌, arith, map-append, Tree, forest, inner_of, Place, CharClasses, Ask, shift, no_log, logged, Outcome, plain, standing, joined, run, Level, Point, gap_of, state_of, less-none, max_depth, start_of, parsed, tree, log, level_at, text_with, onwards_at, text_run, given, run_mark, start, AllGo, End, end_of, asks_of, chain, lead, pieces, end_at, pieces_from, end_from, rest_from, tail, whole_of, peek, marked, run_of, standing-joined}
 use Rattle.typst_edits.specs.RunTrees.{tree_by, RunTreeLaw}
 use Rattle.typst_kinds.specs.declared.kind.SyntaxKind.TheVariants as kind
 pub use Rattle.typst_grammar.proofs.Heads.{standing-none}

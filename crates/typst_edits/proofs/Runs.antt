@@ -1,6 +1,5 @@
 -- The law of an edit inside some turns of a loop.
-use Rattle.std.proofs.Common.{◌≡◌, ℕ, zero, suc, ◌+◌, ◌<◌, Bool, nat_lt, List, [], ◌∷◌, refl, ap, sym, ◌∙◌, arith, true, ◌++◌}
-use Rattle.typst_edits.proofs.Words.{ltb-true, Place, moved, SameIn, Point, Outcome, Meaning, joined, turns, bound, repeated, Level, run, Framed, Within, same_in-shift, same_in-first, same_in-second, moved-sum, and-second, turns-enough, goes, made, AllGo, end_of, asks_of, chain, End, SyntaxKind, Sequence, turn_of, first_of, first_end, then_of, then_end, rest_of, peek, AtHand, repeat, markup_turn, if-true}
+use Rattle.typst_edits.proofs.Cited.{◌≡◌, ℕ, zero, suc, ◌+◌, ◌<◌, Bool, nat_lt, List, [], ◌∷◌, refl, ap, sym, ◌∙◌, arith, true, ◌++◌, ltb-true, Place, moved, SameIn, Point, Outcome, Meaning, joined, turns, bound, repeated, Level, run, Framed, Within, same_in-shift, same_in-first, same_in-second, moved-sum, and-second, turns-enough, goes, made, AllGo, end_of, asks_of, chain, End, SyntaxKind, Sequence, turn_of, first_of, first_end, then_of, then_end, rest_of, peek, AtHand, repeat, markup_turn, if-true}
 
 module _ {A : Type 0} (m : A → Meaning (Bool × A)) where
   -- the first turns, and the rest

@@ -1,7 +1,5 @@
 -- A block's spot at a position among the nodes of an outcome.
-use Rattle.std.proofs.Common.{◌≡◌, ◌⊎◌, inl, inr, ℕ, suc, ◌+◌, ◌-◌, ◌<◌, ◌≤◌, true, false, ◌&&◌, nat_le, List, [], ◌∷◌, ◌++◌, length, take, drop, length-append, length-take, length-drop, append_assoc, refl, ap, sym, ◌∙◌, subst, arith}
-use Rattle.typst_edits.proofs.Words.{and_left, and_parts, and_right, flat_map, is_error, Head, inner_head, SyntaxKind, Tree, forest, Block, Outcome, answered, joined, less, plain, reshaped, hinted, NodeChange, is_delimited, in_parens, Shape, is_sign, ends_with, stays, turns_wrong, is_not, renamed, unparened, keeps, holds, lacks, warns, fails, on_if, is_ordinary, change_by, shape_by, under, Deep, fill, path_in, Hole, plug, stub, between_parens, changed_deep, change_hole, in_node, in_nodes, after_nodes, lack_hole, wrap_in, wrap_hole, last_spot, reshaped_spot, Spot, block_head, then_spot, after_spot}
-use Rattle.std.proofs.lemmas.Bool.{le-leb, lt-leb}
+use Rattle.typst_edits.proofs.Cited.{◌≡◌, ◌⊎◌, inl, inr, ℕ, suc, ◌+◌, ◌-◌, ◌<◌, ◌≤◌, true, false, ◌&&◌, nat_le, List, [], ◌∷◌, ◌++◌, length, take, drop, length-append, length-take, length-drop, append_assoc, refl, ap, sym, ◌∙◌, subst, arith, and_left, and_parts, and_right, flat_map, is_error, Head, inner_head, SyntaxKind, Tree, forest, Block, Outcome, answered, joined, less, plain, reshaped, hinted, NodeChange, is_delimited, in_parens, Shape, is_sign, ends_with, stays, turns_wrong, is_not, renamed, unparened, keeps, holds, lacks, warns, fails, on_if, is_ordinary, change_by, shape_by, under, Deep, fill, path_in, Hole, plug, stub, between_parens, changed_deep, change_hole, in_node, in_nodes, after_nodes, lack_hole, wrap_in, wrap_hole, last_spot, reshaped_spot, Spot, block_head, then_spot, after_spot, le-leb}
 use Rattle.typst_grammar.proofs.Fine.{or-left as or-first, or-right as or-second, or-both}
 use Rattle.typst_edits.specs.Hole.Deep.{bare}
 use Rattle.typst_edits.specs.Hole.{top}
@@ -102,10 +100,6 @@ lack-left count error left l = grind (arith, length-append, length-take, length-
 only-lack-behind : (count : ℕ) (error : Tree) (head : Head) (kept left : List Tree) (d : Deep) (right : List Tree) → is_hollow head ≡ false → Open d → count ≤ length left
     → Only (in_node head kept (lack_hole count error left d right)) (length kept) (suc (length left) ∷ path_in d)
 only-lack-behind count error head kept left d right e o l = grind (arith, only-as, le-leb, lack-left, only-in)
-
-only-lack-before : (count : ℕ) (error : Tree) (head : Head) (kept left : List Tree) (d : Deep) (right : List Tree) → is_hollow head ≡ false → Open d → length left < count
-    → Only (in_node head kept (lack_hole count error left d right)) (length kept) (length left ∷ path_in d)
-only-lack-before count error head kept left d right e o l = grind (arith, only-as, lt-leb, only-in)
 
 -- ---- a spot at a position
 

@@ -1,7 +1,5 @@
 -- Whatever is taken was looked at, and the token of each note before the note: they end where the looks end, or before.
-use Rattle.std.proofs.Common.{◌≡◌, ℕ, zero, suc, ◌+◌, ◌-◌, ◌≤◌, Bool, true, false, if◌then◌else◌, List, [], ◌∷◌, ◌++◌, length, Option, Some, None, ap, arith}
-use Rattle.typst_edits.proofs.Words.{SyntaxMode, Place, moved, CharClasses, look, Block, Call, Reading, Ask, shift, sunk, only_looks, looked, marked, Ahead, len_at, at_trivia, ahead_by, asks_by, ahead_asks, ahead, hand_at, hand_asks, Rules, meaning_of, level_of, blocks_of, Trivia, Point, gap_of, forgot, peek, token, Op, Parser, ◌>>◌, hand, so, further, column, erred, takes, takes_so, flushes, complains, advises, marks, is_deepest, Outcome, Meaning, Level, plain, joined, inside, bounded, blockless, same_mode, hand_of, hand_asks_of, done, run, reader_so, on_both, shape-known, AllEndBy, AllNotedBy}
-use Rattle.typst_language.proofs.Looks.{len-covers}
+use Rattle.typst_edits.proofs.Cited.{◌≡◌, ℕ, zero, suc, ◌+◌, ◌-◌, ◌≤◌, Bool, true, false, if◌then◌else◌, List, [], ◌∷◌, ◌++◌, length, Option, Some, None, ap, arith, SyntaxMode, Place, moved, CharClasses, look, Block, Call, Reading, Ask, shift, sunk, only_looks, looked, marked, Ahead, len_at, at_trivia, ahead_by, asks_by, ahead_asks, ahead, hand_at, hand_asks, Rules, meaning_of, level_of, blocks_of, Trivia, Point, gap_of, forgot, peek, token, Op, Parser, ◌>>◌, hand, so, further, column, erred, takes, takes_so, flushes, complains, advises, marks, is_deepest, Outcome, Meaning, Level, plain, joined, inside, bounded, blockless, same_mode, hand_of, hand_asks_of, done, run, reader_so, on_both, shape-known, AllEndBy, AllNotedBy, len-covers}
 use Rattle.typst_edits.proofs.Bytes.{AllMarks, none-hand}
 use Rattle.typst_edits.proofs.Traversal.{Parts, all-run}
 use Rattle.typst_edits.proofs.Looks.{ending, looks-by, looks-first, looks-second, looks-shifted, only-looks}

@@ -1,6 +1,5 @@
 -- A reading that begins with one candidate serves another one, at the top of a text's tree and in a content block; and the law for both.
-use Rattle.std.proofs.Common.{◌≡◌, ℕ, ◌<◌, ◌≤◌, ◌^◌, ◌-◌, false, List, [], ◌++◌, Some, ap, sym, ◌∙◌, arith, suc, length, length-append, take, subst, refl}
-use Rattle.typst_edits.proofs.Words.{CharClasses, Tree, bare, width, Trivia, Candidate, max_depth, tree, candidates, front_in, SaysBlock, entries_in, IsPieces, RootPiecesOfLaw, InnerPiecesOfLaw, Among, text_with, Run, PassesPieces, Gives, nodes_now, InOrderLaw, root_run, RunNumbersLaw, InnerNumbersLaw, FoundRun, start_at, SyntaxMode, opening_of, RunKind, block_run, OpensApartLaw, Served, path_to, run_from, kids_of_run}
+use Rattle.typst_edits.proofs.Cited.{◌≡◌, ℕ, ◌<◌, ◌≤◌, ◌^◌, ◌-◌, false, List, [], ◌++◌, Some, ap, sym, ◌∙◌, arith, suc, length, length-append, take, subst, refl, CharClasses, Tree, bare, width, Trivia, Candidate, max_depth, tree, candidates, front_in, SaysBlock, entries_in, IsPieces, RootPiecesOfLaw, InnerPiecesOfLaw, Among, text_with, Run, PassesPieces, Gives, nodes_now, InOrderLaw, root_run, RunNumbersLaw, InnerNumbersLaw, FoundRun, start_at, SyntaxMode, opening_of, RunKind, block_run, OpensApartLaw, Served, path_to, run_from, kids_of_run}
 use Rattle.typst_edits.specs.Served.{RunOf, own as of_text, inner as of_block, ServedLaw}
 use Rattle.typst_grammar.specs.declared.part.RunKind.TheVariants as of
 use Rattle.typst_edits.proofs.AnyRun.{seated, Chosen, served, Entered}

@@ -1,9 +1,5 @@
 -- The units of two texts that are asked the same before a stretch and after it.
-use Rattle.std.proofs.Common.{◌≡◌, ℕ, zero, suc, ◌+◌, ◌-◌, ◌<◌, ◌≤◌, ◌^◌, max, min, List, [], ◌∷◌, ◌++◌, length, take, drop, append_assoc, append-nil, refl, ap, sym, ◌∙◌, subst, arith, Bool, true, length-append, Some, None}
-use Rattle.typst_edits.proofs.Words.{take-append_seam, back_of, entry_of, entries_by, last_start, spliced, units_of, Units, units_by, Entry, EntryKind, Place, moved, moved_from, width, position, stretch, far, near, Mark, Note, State, Ask, shift, looked, marked, moved-sum, text_with, AllEndBy, AllBeginIn, Noting, noting, token_start, notes_in, entries_from, AllNotedBy, Look, no_log, logged, Outcome, start_point, CharClasses, markup_reading, rules, max_depth, whole, parsed, log, made-sum, AllFrom, asks_of, Sequence, turn_of, first_of, then_of}
-use Rattle.std.proofs.Math.Seq.{drop-append_seam}
-use Rattle.typst_language.proofs.Places.{moved-ahead}
-use Rattle.typst_edits.specs.Splice.{SpliceLaw}
+use Rattle.typst_edits.proofs.Cited.{◌≡◌, ℕ, zero, suc, ◌+◌, ◌-◌, ◌<◌, ◌≤◌, ◌^◌, max, min, List, [], ◌∷◌, ◌++◌, length, take, drop, append_assoc, append-nil, refl, ap, sym, ◌∙◌, subst, arith, Bool, true, length-append, Some, None, take-append_seam, back_of, entry_of, entries_by, last_start, spliced, units_of, Units, units_by, Entry, Place, moved, moved_from, width, position, stretch, far, near, Mark, Note, State, Ask, shift, looked, marked, moved-sum, text_with, AllEndBy, AllBeginIn, Noting, noting, token_start, notes_in, entries_from, AllNotedBy, Look, no_log, logged, Outcome, start_point, CharClasses, markup_reading, rules, max_depth, whole, parsed, log, made-sum, AllFrom, asks_of, Sequence, turn_of, first_of, then_of, drop-append_seam, moved-ahead, SpliceLaw}
 use Rattle.typst_edits.proofs.Edit.{onto, past-is}
 use Rattle.typst_edits.proofs.Bytes.{note_by, notes_from, least_from, none_yet, fresh_notes, logged-notes, logged-least, least-around, noted-length, AllMarks, notes-one}
 use Rattle.typst_edits.proofs.Widths.{width-append, width-none, width-onto, stretch-to, moved-width, take-width}
@@ -130,12 +126,6 @@ reach-none e f x = omega arith
 
 pub least-none : (top e f big : ℕ) → e + top < big → f + top < big → SameLeast top e f big big
 least-none top e f big h k x l = omega (arith, h, k, l)
-
-abbrev entry_with : EntryKind → ℕ → ℕ → ℕ → ℕ → ℕ → Entry
-entry_with t count step gap forth back = record { kind = t; step = step; gap = gap; forth = forth; back = back; count = count }
-
-entry-same : (t : EntryKind) (count a b c d e f g h : ℕ) → a ≡ e → b ≡ f → c ≡ g → d ≡ h → entry_with t count a b c d ≡ entry_with t count e f g h
-entry-same t count a b c d e f g h i j k l = ap (λ n. entry_with t count n b c d) i ∙ ap (λ n. entry_with t count e n c d) j ∙ ap (λ n. entry_with t count e f n d) k ∙ ap (λ n. entry_with t count e f g n) l
 
 -- a given number of characters further on, after a stretch
 module _ (front mid rest : List ℕ) (past end : ℕ) (e : end ≡ (length front + length mid) + past) where

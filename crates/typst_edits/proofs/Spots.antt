@@ -1,17 +1,11 @@
 -- The law of an edit inside a block, for whatever the language can say.
-use Rattle.std.proofs.Common.{◌≡◌, ℕ, suc, ◌+◌, ◌-◌, ◌≤◌, inl, inr, Bool, true, false, ◌&&◌, if◌then◌else◌, nat_le, List, [], ◌∷◌, ◌++◌, length, take, drop, length-append, length-take, length-drop, append_assoc, refl, ap, sym, ◌∙◌, subst, arith, ◌<◌, zero, max, nat_lt, map, Option, Some, None}
-use Rattle.typst_edits.proofs.Words.{take-append-le, drop-map, drop-append-le, SyntaxKind, is_error, Head, inner_head, Tree, forest, trees_forest, Point, point_of, gap_of, NodeChange, first_changed, without_parens, is_delimited, in_parens, Shape, shaped, after_shape, hinted, seen, is_sign, ends_with, renamed_last, parens_renamed, after_change, stays, turns_wrong, is_not, renamed, unparened, keeps, holds, under, Deep, fill, Hole, plug, stub, between_parens, changed_deep, first_hole, change_hole, in_node, in_nodes, after_nodes, wrap_in, wrap_past, wrap_hole, Place, moved, Ask, SameIn, Outcome, Meaning, less, joined, followed, answered, turns, as_last, bound, repeated, before, reshaped, wrapped, nestings, nesting, grown, is_more, growths, growing, Framed, Backs, Within, same_in-shift, same_in-first, same_in-second, moved-sum, length-less, Spot, around, Fits, unit_at, block_head, then_spot, after_spot, valued, rehole, flat_map, ltb-true, Begin, and-second, grew, turns-enough, Spots, joined_spots, goes, last_spot, turns_spots, repeated_spots, reshaped_spot, wrapped_spot, nestings_spots, nesting_spots, grown_spot, growths_spots, growing_spots, drop-append-add, length-hinted, if-true, if-false}
-use Rattle.typst_language.specs.Shape.{changed, Seen}
+use Rattle.typst_edits.proofs.Cited.{◌≡◌, ℕ, suc, ◌+◌, ◌-◌, ◌≤◌, inl, inr, Bool, true, false, ◌&&◌, if◌then◌else◌, nat_le, List, [], ◌∷◌, ◌++◌, length, take, drop, length-append, length-take, length-drop, append_assoc, refl, ap, sym, ◌∙◌, subst, arith, ◌<◌, zero, max, nat_lt, map, Option, Some, None, take-append-le, drop-map, drop-append-le, SyntaxKind, is_error, Head, inner_head, Tree, forest, trees_forest, Point, point_of, gap_of, NodeChange, first_changed, without_parens, is_delimited, in_parens, Shape, shaped, after_shape, hinted, seen, is_sign, ends_with, renamed_last, parens_renamed, after_change, stays, turns_wrong, is_not, renamed, unparened, keeps, holds, under, Deep, fill, Hole, plug, stub, between_parens, changed_deep, first_hole, change_hole, in_node, in_nodes, after_nodes, wrap_in, wrap_past, wrap_hole, Place, moved, Ask, SameIn, Outcome, Meaning, less, joined, followed, answered, turns, as_last, bound, repeated, before, reshaped, wrapped, nestings, nesting, grown, is_more, growths, growing, Framed, Backs, Within, same_in-shift, same_in-first, same_in-second, moved-sum, length-less, Spot, around, Fits, unit_at, block_head, then_spot, after_spot, valued, rehole, flat_map, ltb-true, Begin, and-second, grew, turns-enough, Spots, joined_spots, goes, last_spot, turns_spots, repeated_spots, reshaped_spot, wrapped_spot, nestings_spots, nesting_spots, grown_spot, growths_spots, growing_spots, drop-append-add, length-hinted, if-true, if-false, changed, Seen, take-append-add, shape-counts, backs-turns, tidy-nestings, leb-false, framed-turns, framed-nestings, grew-asks}
 use Rattle.typst_edits.specs.Hole.Deep.{bare}
 use Rattle.typst_edits.specs.Hole.{top}
 use Rattle.typst_language.proofs.Within.{if-same, nest, nestings-enough, growths-enough, Enough, enough-grew, grown-taken}
-use Rattle.std.proofs.Math.Seq.{take-append-add}
-use Rattle.typst_language.proofs.Backs.{shape-counts, backs-turns, tidy-nestings}
 use Rattle.typst_tree.proofs.Stretches.{le_from as le-is}
 use Rattle.typst_edits.proofs.Every.{Every, every-map, every-if, every-by, every-append, every-flat, every-any}
 use Rattle.typst_edits.proofs.Outcomes.{head-fill, then-around, after-around, same-outcome, seen-plug}
-use Rattle.std.proofs.lemmas.Bool.{leb-false}
-use Rattle.typst_language.proofs.Frame.{framed-turns, framed-nestings, grew-asks}
 use Rattle.typst_kinds.specs.declared.kind.SyntaxKind.TheVariants as kind
 
 -- ---- a hole in what several nodes become
@@ -46,14 +40,6 @@ after-more change t (v ∷ ts) u us s = refl
 
 changes-more : (change : NodeChange) (h : Head) (t : Tree) (left : List Tree) (d : Deep) (right : List Tree) → Solid d h → Changes change h (t ∷ left) d right (record { left = first_changed change (t ∷ left); deep = d; right = right })
 changes-more change h t left d right solid = grind (arith, first-more, after-more)
-
--- A node that is no error and doesn't become one.
-after-solid : (change : NodeChange) (t u : Tree) (right : List Tree) (s : Point) → changed change t ≡ u → is_error t.head.kind ≡ false → is_error u.head.kind ≡ false
-    → after_change change (t ∷ right) s ≡ (elim right as (λ _. Point) [ [] ↦ record s { empties = 0; is_after_error = false } | v ∷ vs ↦ s ])
-after-solid change t u right s e f g = grind arith
-
-few-right : (right : List Tree) (s : Point) → s.empties ≤ length right → (elim right as (λ _. Point) [ [] ↦ record s { empties = 0; is_after_error = false } | u ∷ us ↦ s ]).empties ≤ length right
-few-right right s h = grind arith
 
 first-is : (change : NodeChange) (t : Tree) (ts : List Tree) → first_changed change (t ∷ ts) ≡ changed change t ∷ ts
 first-is stays t ts = refl

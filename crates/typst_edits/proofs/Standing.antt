@@ -1,10 +1,5 @@
 -- Each node of a block's kind stands where a spot of the reading is, or where one of a second reading is.
-use Rattle.std.proofs.Common.{◌≡◌, ◌⊎◌, inl, inr, ℕ, suc, ◌+◌, ◌-◌, ◌<◌, Bool, true, false, List, [], ◌∷◌, ◌++◌, length, map, take, drop, Option, Some, None, refl, ap, sym, ◌∙◌, subst, arith, length-append, append-nil}
-use Rattle.typst_edits.proofs.Words.{flat_map, Tree, forest, token_node, Place, moved, Block, Reading, Outcome, Meaning, Level, less, joined, answered, before, inside, reshaped, wrapped, grown, bounded, given_up, plain, same_mode, left_to, deeper_by_one, taken_node, hand_of, hand_asks_of, done, run, blockless, start_point, closed, reader_so, gave, Point, Trivia, pending, forgot, Shape, hinted, after_shape, seen, shaped, Op, Parser, hand, so, further, column, erred, takes, takes_so, flushes, complains, advises, marks, is_deepest, length-less, less-none, on_both, is_ordinary, shape_by, plug, path_in, Spots, joined_spots, last_spot, reshaped_spot, wrapped_spot, grown_spot, scoped_spot, bounded_spots, spots, call_spots, block_spots, level_spots, Spot, valued, then_spot, after_spot, sunk_spot, closed_spot, kind_of, seconds, call_seconds, block_seconds, level_seconds, seconds_of_text, IsOf, Stems, is_error, CharClasses, blocks_of, meaning_of, level_of, stays, turns_wrong, peek, node, at_token, rules, max_depth, start_of, whole, parsed, markup_reading, content_block, code_block, blocks_of_text, op_by, PlainBy, ordinary-whole, ordinary-production, ordinary-content, ordinary-code, inside_content, inside_code}
-use Rattle.typst_language.specs.Meaning.{node_by}
-use Rattle.typst_edits.specs.Standing.{StandingLaw}
-use Rattle.typst_grammar.proofs.FineRuns.{if_by, after-shape-known}
-use Rattle.typst_language.specs.Hand.{token_by, len_by}
+use Rattle.typst_edits.proofs.Cited.{◌≡◌, ◌⊎◌, inl, inr, ℕ, suc, ◌+◌, ◌-◌, ◌<◌, Bool, true, false, List, [], ◌∷◌, ◌++◌, length, map, take, drop, Option, Some, None, refl, ap, sym, ◌∙◌, subst, arith, length-append, append-nil, flat_map, Tree, forest, token_node, Place, moved, Block, Reading, Outcome, Meaning, Level, less, joined, answered, before, inside, reshaped, wrapped, grown, bounded, given_up, plain, same_mode, left_to, deeper_by_one, taken_node, hand_of, hand_asks_of, done, run, blockless, start_point, closed, reader_so, gave, Point, Trivia, pending, forgot, Shape, hinted, after_shape, seen, shaped, Op, Parser, hand, so, further, column, erred, takes, takes_so, flushes, complains, advises, marks, is_deepest, length-less, less-none, on_both, is_ordinary, shape_by, plug, path_in, Spots, joined_spots, last_spot, reshaped_spot, wrapped_spot, grown_spot, scoped_spot, bounded_spots, spots, call_spots, block_spots, level_spots, Spot, valued, then_spot, after_spot, sunk_spot, closed_spot, kind_of, seconds, call_seconds, block_seconds, level_seconds, seconds_of_text, IsOf, Stems, is_error, CharClasses, blocks_of, meaning_of, level_of, stays, turns_wrong, peek, node, at_token, rules, max_depth, start_of, whole, parsed, markup_reading, content_block, code_block, blocks_of_text, op_by, PlainBy, ordinary-whole, ordinary-production, ordinary-content, ordinary-code, inside_content, inside_code, node_by, StandingLaw, if_by, after-shape-known, token_by, len_by}
 use Rattle.typst_edits.proofs.Positions.{CleanTree, clean-token, clean-made, clean-hand, Nowhere, Clean, Each, each-by, each-clean, each-move, each-append, each-hinted, each-less, each-plug}
 use Rattle.typst_edits.proofs.Complete.{Any, any-left, any-right, any-map, chosen}
 use Rattle.typst_edits.proofs.Gathering.{Parts, Given, AllHold, CallsHold, all-run, all-level}

@@ -1,6 +1,5 @@
 -- The byte at which the children begin of the node at the end of a path, in a tree with a hole there; spans aside it is the same.
-use Rattle.std.proofs.Common.{◌≡◌, ℕ, zero, suc, ◌+◌, List, [], ◌∷◌, ◌++◌, length, take, length-append, Option, Some, refl, ap, sym, ◌∙◌, arith}
-use Rattle.typst_edits.proofs.Words.{slice_get, option_map, take-append_seam, inner_head, Tree, Forest, none, more, forest, trees, bare, bare_forest, inner_of, start_at, or_none, texts, Deep, fill, path_in, Hole, plug, path_of, under}
+use Rattle.typst_edits.proofs.Cited.{◌≡◌, ℕ, zero, suc, ◌+◌, List, [], ◌∷◌, ◌++◌, length, take, length-append, Option, Some, refl, ap, sym, ◌∙◌, arith, slice_get, option_map, take-append_seam, inner_head, Tree, Forest, none, more, forest, trees, bare, bare_forest, inner_of, start_at, or_none, texts, Deep, fill, path_in, Hole, plug, path_of, under}
 use Rattle.typst_tree.specs.Tree.{joined}
 use Rattle.typst_edits.specs.Hole.Deep.{bare as alone}
 use Rattle.typst_kinds.specs.declared.kind.SyntaxKind.TheVariants as kind

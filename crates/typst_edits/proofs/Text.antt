@@ -1,6 +1,5 @@
 -- The block law of a whole text.
-use Rattle.std.proofs.Common.{◌≡◌, ℕ, suc, ◌-◌, ◌<◌, List, ◌++◌, ap, ◌∙◌, arith}
-use Rattle.typst_edits.proofs.Words.{Place, moved, CharClasses, forest, inner_of, start_point, point_of, markup_reading, rules, max_depth, start_of, whole, parsed, tree, Among, text_with, blocks_of_text, block_at, Named, Spot, ended, unit_at}
+use Rattle.typst_edits.proofs.Cited.{◌≡◌, ℕ, suc, ◌-◌, ◌<◌, List, ◌++◌, ap, ◌∙◌, arith, Place, moved, CharClasses, forest, inner_of, start_point, point_of, markup_reading, rules, max_depth, start_of, whole, parsed, tree, Among, text_with, blocks_of_text, block_at, Named, Spot, ended, unit_at}
 use Rattle.typst_edits.specs.Laws.{BlockLaw, NamesLaw}
 use Rattle.typst_kinds.specs.declared.kind.SyntaxKind.TheVariants as kind
 use Rattle.typst_language.specs.declared.calls.Block.TheVariants as block

@@ -1,6 +1,5 @@
 -- A property of all that the language can say: it holds of the whole if it holds of each part.
-use Rattle.std.proofs.Common.{ℕ, zero, suc, Bool, ◌&&◌, if◌then◌else◌, nat_lt, Option, Some, None}
-use Rattle.typst_edits.proofs.Words.{Place, moved, Block, Reading, Call, Answer, Point, Shape, Op, Begin, Parser, flushes, gives, does, next, pick, repeat, wraps, grows, nests, scoped, either, calls, block, Outcome, Meaning, Level, plain, joined, answered, turns, as_last, bound, repeated, before, reshaped, wrapped, grown, is_more, growths, growing, nestings, nesting, deeper_by_one, given_up, bounded, entered, left_to, done, run, on_both, grew}
+use Rattle.typst_edits.proofs.Cited.{ℕ, zero, suc, Bool, ◌&&◌, if◌then◌else◌, nat_lt, Option, Some, None, Place, moved, Block, Reading, Call, Answer, Point, Shape, Op, Begin, Parser, flushes, gives, does, next, pick, repeat, wraps, grows, nests, scoped, either, calls, block, Outcome, Meaning, Level, plain, joined, answered, turns, as_last, bound, repeated, before, reshaped, wrapped, grown, is_more, growths, growing, nestings, nesting, deeper_by_one, given_up, bounded, entered, left_to, done, run, on_both, grew}
 
 -- a property of an outcome, and of where it was read from
 module _ (P : (A : Type 0) → Place → Point → Outcome A → Type 0) where

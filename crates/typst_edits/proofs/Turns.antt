@@ -1,15 +1,7 @@
 -- Each expression of markup begins by taking the token at hand, so everything after some pieces is the same, except for the trivia before it.
-use Rattle.std.proofs.Common.{◌≡◌, ℕ, ◌+◌, ◌-◌, ◌<◌, ◌≤◌, Bool, true, false, ◌||◌, if◌then◌else◌, nat_lt, List, [], ◌∷◌, ◌++◌, length, take, drop, map, length-append, append_assoc, Some, refl, ap, sym, ◌∙◌, subst, arith, ◌==◌, Option}
-use Rattle.std.proofs.Math.Seq.{drop-append_seam}
-use Rattle.typst_edits.proofs.Words.{take-append_seam, map-append, SyntaxKind, is_error, Place, moved, Tree, text_of, Look, Call, Reading, Ask, shift, shift_one, sunk, SameIn, looked, as_at_hand, len_at, hand_at, hand_asks, asks_column, column_look, AtHand, column_at, Trivia, Point, Making, hinted, Shape, shaped, after_shape, after_node, seen, peek, eat_making, eat, flush_trivia, node, unexpected, within, Parser, ◌>>=◌, ◌>>◌, at_token, column, takes, does, next, wraps, scoped, calls, gives, pick, repeat, Outcome, Meaning, Level, plain, less, standing, joined, followed, inside, wrapped, renewed, left, taken_node, run, answered, as_last, repeated, hand_of, hand_asks_of, asked, flushed_state, Tidy, Backs, Within, moved-sum, less-none, length-less, less-append, Block, MarkupExpr, Newlines, anywhere, too_deep, deeper, is_end, itself, surprise, of_kind, hand-takes, Sane, sane-run, same_in-first, ends, note_piece, markup_turn, markup_head, markup_by, markup_expr, minds, goes, left-empties, length-hinted, hinted-append, MarkupHead, if-true, if-false}
-use Rattle.typst_language.specs.Hand.{judged}
-use Rattle.typst_language.specs.Steps.{convert_and_eat}
-use Rattle.typst_language.proofs.Places.{take-all}
-use Rattle.typst_grammar.specs.Markup.{delimited, heading, item, term_item, reference}
+use Rattle.typst_edits.proofs.Cited.{◌≡◌, ℕ, ◌+◌, ◌-◌, ◌<◌, ◌≤◌, Bool, true, false, ◌||◌, if◌then◌else◌, nat_lt, List, [], ◌∷◌, ◌++◌, length, take, drop, map, length-append, append_assoc, Some, refl, ap, sym, ◌∙◌, subst, arith, ◌==◌, Option, drop-append_seam, take-append_seam, map-append, SyntaxKind, is_error, Place, moved, Tree, text_of, Look, Call, Reading, Ask, shift, shift_one, sunk, SameIn, looked, as_at_hand, len_at, hand_at, hand_asks, asks_column, column_look, AtHand, column_at, Trivia, Point, Making, hinted, Shape, shaped, after_shape, after_node, seen, peek, eat_making, eat, flush_trivia, node, unexpected, within, Parser, ◌>>=◌, ◌>>◌, at_token, column, takes, does, next, wraps, scoped, calls, gives, pick, repeat, Outcome, Meaning, Level, plain, less, standing, joined, followed, inside, wrapped, renewed, left, taken_node, run, answered, as_last, repeated, hand_of, hand_asks_of, asked, flushed_state, Tidy, Backs, Within, moved-sum, less-none, length-less, less-append, Block, MarkupExpr, Newlines, anywhere, too_deep, deeper, is_end, itself, surprise, of_kind, hand-takes, Sane, sane-run, same_in-first, ends, note_piece, markup_turn, markup_head, markup_by, markup_expr, minds, goes, left-empties, length-hinted, hinted-append, MarkupHead, if-true, if-false, judged, take-all, convert_and_eat, delimited, heading, item, term_item, reference, embedded, between_dollars, equation}
 use Rattle.typst_edits.proofs.Fronts.{Full, full-append, full-less, full-hinted, full-shaped, few-node, few-shaped, full-taken}
 use Rattle.typst_edits.proofs.Outcomes.{shift-zero, shift-twice, sunk-shift, hints-first}
-use Rattle.typst_grammar.specs.Embedded.{embedded}
-use Rattle.typst_grammar.specs.Equations.{between_dollars, equation}
 use Rattle.typst_edits.proofs.Runs.{repeated-chain}
 use Rattle.typst_edits.proofs.Known.{flushed-held}
 use Rattle.typst_kinds.specs.declared.kind.SyntaxKind.TheVariants as kind

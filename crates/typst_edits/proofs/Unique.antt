@@ -1,8 +1,6 @@
 -- Nodes that take the same place in the same tree and give the same tree are the same, so an edit has one answer.
-use Rattle.std.proofs.Common.{◌≡◌, ℕ, zero, suc, List, [], ◌∷◌, ◌++◌, drop, take, Some, ap, sym, ◌∙◌, subst, arith}
-use Rattle.typst_edits.proofs.Words.{slice_get, CharClasses, Tree, forest, trees, At, Reaches, replaced_at, trees_forest, width, Candidate, tree, with_children, alter, Every, Gives, OpensApartLaw, append_cancel_left, append_cancel_right, part}
+use Rattle.typst_edits.proofs.Cited.{◌≡◌, ℕ, zero, suc, List, [], ◌∷◌, ◌++◌, drop, take, Some, ap, sym, ◌∙◌, subst, arith, slice_get, CharClasses, Tree, forest, trees, At, Reaches, replaced_at, trees_forest, width, Candidate, tree, with_children, alter, Every, Gives, OpensApartLaw, append_cancel_left, append_cancel_right, part, Refused}
 use Rattle.typst_edits.specs.Answer.IsAnswer.{whole}
-use Rattle.typst_edits.specs.Answer.{Refused}
 use Rattle.typst_edits.specs.Unique.{UniqueLaw, OneAnswerLaw}
 use Rattle.typst_edits.proofs.AnswerTree.{chosen-of, gives-tree-law, some-is}
 use Rattle.typst_edits.proofs.CandidateWorth.{in-order, reached}

@@ -1,12 +1,8 @@
 -- Where the blocks of a second reading begin, no block is noted.
-use Rattle.std.proofs.Common.{◌≡◌, ◌⊎◌, inl, inr, ℕ, ◌+◌, ◌<◌, ◌≤◌, Bool, true, false, ◌&&◌, List, [], ◌∷◌, ◌++◌, length, map, drop, append-nil, Option, Some, None, refl, ap, sym, ◌∙◌, subst, arith}
-use Rattle.typst_edits.proofs.Words.{flat_map, Place, moved, Block, Ask, shift, shift_one, sunk, sink_one, only_looks, looked, marked, Call, Answer, Outcome, Meaning, Level, joined, answered, before, grown, bounded, given_up, entered, hand_asks_of, done, run, blockless, asked, hand_of, start_point, Point, state_of, forgot, SyntaxKind, Shape, after_shape, seen, NodeChange, Op, Begin, Parser, ◌>>◌, hand, so, further, column, erred, takes, takes_so, flushes, complains, advises, marks, is_deepest, does, next, wraps, scoped, ahead-left, Hole, plug, wrap_hole, opened, Spots, joined_spots, last_spot, reshaped_spot, wrapped_spot, grown_spot, scoped_spot, bounded_spots, call_spots, block_spots, level_spots, Spot, block_head, valued, then_spot, after_spot, rehole, sunk_spot, closed_spot, seconds, call_seconds, block_seconds, level_seconds, seconds_of_text, place_of, CharClasses, Reading, AtHand, as_at_hand, meaning_of, level_of, keeps, holds, lacks, warns, fails, itself, stays, turns_wrong, is_not, renamed, unparened, peek, eat, eat_making, node, at_token, rules, max_depth, start_of, whole, production, block_production, markup_reading, content_block, code_block, change_by, shape_by, is_ordinary, block_at, op_by, PlainBy, ordinary-whole, ordinary-production, ordinary-content, ordinary-code, inside_content, inside_code, cases_lt}
-use Rattle.typst_edits.specs.Standing.{UnnotedLaw}
-use Rattle.typst_grammar.proofs.FineRuns.{gives-all, plain-weaker}
+use Rattle.typst_edits.proofs.Cited.{◌≡◌, ◌⊎◌, inl, inr, ℕ, ◌+◌, ◌<◌, ◌≤◌, Bool, true, false, ◌&&◌, List, [], ◌∷◌, ◌++◌, length, map, drop, append-nil, Option, Some, None, refl, ap, sym, ◌∙◌, subst, arith, flat_map, Place, moved, Block, Ask, shift, shift_one, sunk, sink_one, only_looks, looked, marked, Call, Answer, Outcome, Meaning, Level, joined, answered, before, grown, bounded, given_up, entered, hand_asks_of, done, run, blockless, asked, hand_of, start_point, Point, state_of, forgot, SyntaxKind, Shape, after_shape, seen, NodeChange, Op, Begin, Parser, ◌>>◌, hand, so, further, column, erred, takes, takes_so, flushes, complains, advises, marks, is_deepest, does, next, wraps, scoped, ahead-left, Hole, plug, wrap_hole, opened, Spots, joined_spots, last_spot, reshaped_spot, wrapped_spot, grown_spot, scoped_spot, bounded_spots, call_spots, block_spots, level_spots, Spot, block_head, valued, then_spot, after_spot, rehole, sunk_spot, closed_spot, seconds, call_seconds, block_seconds, level_seconds, seconds_of_text, place_of, CharClasses, Reading, AtHand, as_at_hand, meaning_of, level_of, keeps, holds, lacks, warns, fails, itself, stays, turns_wrong, is_not, renamed, unparened, peek, eat, eat_making, node, at_token, rules, max_depth, start_of, whole, production, block_production, markup_reading, content_block, code_block, change_by, shape_by, is_ordinary, block_at, op_by, PlainBy, ordinary-whole, ordinary-production, ordinary-content, ordinary-code, inside_content, inside_code, cases_lt, UnnotedLaw, gives-all, plain-weaker, moves-inside}
 use Rattle.typst_edits.proofs.Gathering.{Parts, Given, CallsHold, all-run, all-level}
 use Rattle.typst_edits.proofs.Complete.{opened-append, opened-by, opens-shift, opens-sink, opened-looks, opened-hand}
 use Rattle.typst_edits.proofs.Every.{Every, every-append, every-by, every-map, every-flat, every-any}
-use Rattle.typst_grammar.proofs.Firsts.{moves-inside}
 use Rattle.typst_grammar.proofs.Moves.{Moves, left-again, moves-next, moves-takes, moves-eat, moves-scoped, moves-wraps, moves-node}
 use Rattle.typst_edits.proofs.Blocks.{enclosing}
 use Rattle.typst_edits.proofs.Rising.{hand-some as some-hand}

@@ -1,14 +1,8 @@
 -- Where a block of a text stands, and that the steps by places lead to each block that covers the stretch strictly.
-use Rattle.std.proofs.Common.{◌≡◌, ℕ, suc, ◌+◌, ◌-◌, ◌≤◌, Bool, true, false, ◌&&◌, if◌then◌else◌, List, [], ◌∷◌, ◌++◌, length, take, drop, append_assoc, append-nil, refl, ap, sym, ◌∙◌, subst, arith, zero, ◌<◌, max, length-append, encode_utf8, encode_utf8_all, nat_lt, map, length-take, option_map, Some}
-use Rattle.typst_edits.proofs.Words.{is_error, Head, Place, moved, Tree, error_of, text_of, trees, CharClasses, Block, Call, utf8_ahead, Point, forgot, point_of, NodeChange, Shape, hinted, is_delimited, stays, turns_wrong, is_not, renamed, unparened, keeps, Parser, flushes, does, Rules, meaning_of, level_of, Outcome, Level, blockless, answered, joined, less, done, run, start_point, Tidy, Stands, Sane, sane-run, sane-meaning, sane-block, sane-plain, texts, texts-append, text-shaped, texts-one, texts-first, text-add, same-hinted, kept-joined, Holds, Deep, Hole, between_parens, changed_deep, first_hole, change_hole, in_node, in_nodes, after_nodes, wrap_in, wrap_hole, plug, fill, path_in, path_of, under, Spot, block_head, after_spot, rehole, ended, unit_at, here_spot, Spots, level_spots, level_seconds, width, ahead-left, markup_reading, rules, max_depth, start_of, whole, parsed, Among, text_with, blocks_of_text, block_at, Named, width-positive, and_right, take-append-drop, lawful-block, if-true, if-false}
-use Rattle.typst_lines.specs.Place.{char_width}
-use Rattle.typst_language.proofs.Leaves.{texts-same, kept-grown}
+use Rattle.typst_edits.proofs.Cited.{◌≡◌, ℕ, suc, ◌+◌, ◌-◌, ◌≤◌, Bool, true, false, ◌&&◌, if◌then◌else◌, List, [], ◌∷◌, ◌++◌, length, take, drop, append_assoc, append-nil, refl, ap, sym, ◌∙◌, subst, arith, zero, ◌<◌, max, length-append, encode_utf8, encode_utf8_all, nat_lt, map, length-take, option_map, Some, is_error, Head, Place, moved, Tree, error_of, text_of, trees, CharClasses, Block, Call, utf8_ahead, Point, forgot, point_of, NodeChange, Shape, hinted, is_delimited, stays, turns_wrong, is_not, renamed, unparened, keeps, Parser, flushes, does, Rules, meaning_of, level_of, Outcome, Level, blockless, answered, joined, less, done, run, start_point, Tidy, Stands, Sane, sane-run, sane-meaning, sane-block, sane-plain, texts, texts-append, text-shaped, texts-one, texts-first, text-add, same-hinted, kept-joined, Holds, Deep, Hole, between_parens, changed_deep, first_hole, change_hole, in_node, in_nodes, after_nodes, wrap_in, wrap_hole, plug, fill, path_in, path_of, under, Spot, block_head, after_spot, rehole, ended, unit_at, here_spot, Spots, level_spots, level_seconds, width, ahead-left, markup_reading, rules, max_depth, start_of, whole, parsed, Among, text_with, blocks_of_text, block_at, Named, width-positive, and_right, take-append-drop, lawful-block, if-true, if-false, char_width, texts-same, kept-grown, and_from, le-ltb, tidy-grew, length-encode}
 use Rattle.typst_edits.specs.Hole.Deep.{bare}
-use Rattle.std.proofs.lemmas.Bool.{and_from, le-ltb}
-use Rattle.typst_language.proofs.Backs.{tidy-grew}
 use Rattle.typst_edits.proofs.Every.{Every, every-map, every-if}
 use Rattle.typst_edits.proofs.Names.{Walks, Steps, each-level, each-second-level, named-level}
-use Rattle.std.proofs.lemmas.Str.{length-encode}
 use Rattle.typst_edits.proofs.Blocks.{ends}
 use Rattle.typst_edits.proofs.Content.{Clear, clear-level, no-front}
 use Rattle.typst_edits.proofs.Edit.{among, trees-of}

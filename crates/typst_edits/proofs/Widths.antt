@@ -1,7 +1,5 @@
 -- Places in characters and in bytes.
-use Rattle.std.proofs.Common.{◌≡◌, ℕ, zero, suc, ◌+◌, ◌<◌, ◌≤◌, List, [], ◌∷◌, ◌++◌, length, take, length-append, append_assoc, refl, sym, ◌∙◌, subst, ap, ◌-◌, drop, length-take, length-drop, lt_of_not-le, arith}
-use Rattle.typst_edits.proofs.Words.{take-append_seam, take-append-drop, moved, moved_from, width-positive, width, position, stretch, far, near}
-use Rattle.std.proofs.Math.Seq.{take-add, take-append-add}
+use Rattle.typst_edits.proofs.Cited.{◌≡◌, ℕ, zero, suc, ◌+◌, ◌<◌, ◌≤◌, List, [], ◌∷◌, ◌++◌, length, take, length-append, append_assoc, refl, sym, ◌∙◌, subst, ap, ◌-◌, drop, length-take, length-drop, lt_of_not-le, arith, take-append_seam, take-append-drop, moved, moved_from, width-positive, width, position, stretch, far, near, take-add, take-append-add}
 use Rattle.typst_edits.proofs.Edit.{onto}
 use Rattle.typst_edits.proofs.Every.{neither, not-less}
 

@@ -1,6 +1,5 @@
 -- Each look is at a place of the text, or at its end.
-use Rattle.std.proofs.Common.{ℕ, zero, suc, ◌+◌, ◌≤◌, max, false, List, [], ◌∷◌, ◌++◌, length, Option, ap, arith}
-use Rattle.typst_edits.proofs.Words.{SyntaxMode, Place, moved, CharClasses, look, Block, Call, Reading, Ask, shift, sunk, looked, marked, len_at, at_trivia, asks_by, ahead_asks, ahead_of, ahead_asks_of, asks_column, column_look, hand_at, hand_asks, Rules, meaning_of, level_of, blocks_of, Trivia, Point, gap_of, forgot, itself, peek, Op, Parser, ◌>>◌, hand, so, further, column, erred, takes, takes_so, flushes, complains, advises, marks, is_deepest, does, Outcome, Meaning, Level, bound, inside, bounded, blockless, same_mode, hand_of, hand_asks_of, done, run, Within, Sane, sane-run, sane-meaning, sane-block, sane-plain, ahead-left, moved-sum, shape-known, on_both}
+use Rattle.typst_edits.proofs.Cited.{ℕ, zero, suc, ◌+◌, ◌≤◌, max, false, List, [], ◌∷◌, ◌++◌, length, Option, ap, arith, SyntaxMode, Place, moved, CharClasses, look, Block, Call, Reading, Ask, shift, sunk, looked, marked, len_at, at_trivia, asks_by, ahead_asks, ahead_of, ahead_asks_of, asks_column, column_look, hand_at, hand_asks, Rules, meaning_of, level_of, blocks_of, Trivia, Point, gap_of, forgot, itself, peek, Op, Parser, ◌>>◌, hand, so, further, column, erred, takes, takes_so, flushes, complains, advises, marks, is_deepest, does, Outcome, Meaning, Level, bound, inside, bounded, blockless, same_mode, hand_of, hand_asks_of, done, run, Within, Sane, sane-run, sane-meaning, sane-block, sane-plain, ahead-left, moved-sum, shape-known, on_both}
 use Rattle.typst_edits.proofs.Traversal.{Parts, all-run}
 use Rattle.typst_edits.proofs.Looks.{OfLooks, looks-both, looks-by, looks-only, looks-shifted}
 

@@ -1,12 +1,7 @@
 -- The mentions of a name, row by row.
-use Rattle.std.proofs.Common.{◌≡◌, ℕ, ◌+◌, Bool, true, false, List, [], ◌∷◌, ◌++◌, length, filter, Option, None, Some, option_map, option_to_list, refl, ap, sym, ◌∙◌, arith, append_assoc, append-nil, if◌then◌else◌}
-use Rattle.std.specs.Prelude.{map}
-use Rattle.std.proofs.lemmas.List.{map-append}
+use Rattle.typst_features.proofs.Cited.{◌≡◌, ℕ, ◌+◌, Bool, true, false, List, [], ◌∷◌, ◌++◌, length, filter, Option, None, Some, option_map, option_to_list, refl, ap, sym, ◌∙◌, arith, append_assoc, append-nil, if◌then◌else◌, map, map-append, Tree, forest, Mentioned, is_of, mentioned, of_name, row, Mention}
 use Rattle.std.proofs.lemmas.List.Elements.{filter-append}
-use Rattle.typst_tree.specs.Tree.{Tree, forest}
-use Rattle.typst_features.specs.Labels.{Mentioned, is_of, mentioned, of_name, row}
 use Rattle.typst_features.specs.LabelRows.{left, left_all, steps_all, steps_left}
-use Rattle.typst_features.specs.declared.naming.Mention.{Mention}
 use Rattle.typst_features.specs.declared.naming.MentionKind.{MentionKind}
 use Rattle.typst_features.specs.declared.naming.Row.{Row}
 
@@ -36,30 +31,22 @@ made k wanted a e end n o kind ends found = (λ i. Some (mention_of (kind i) a (
 
 -- what a node mentions is added if it has the name
 pub added : (n : List ℕ) (old new : List Mention) (o : Option Mentioned) (m : Mention) → Some (mentioned m) ≡ o → is_of n (mentioned m) ≡ true → new ≡ old ++ m ∷ [] → map mentioned new ≡ map mentioned old ++ of_name n (option_to_list o)
-added n old new o m is named pushed =
-    let one : of_name n (option_to_list (Some (mentioned m))) ≡ mentioned m ∷ [] = ap (λ (v : Bool). if v then mentioned m ∷ [] else []) named in
-    ap (map mentioned) pushed ∙ map-append mentioned old (m ∷ []) ∙ ap (λ xs. map mentioned old ++ xs) (sym one ∙ ap (λ p. of_name n (option_to_list p)) is)
+added n old new o m is named pushed = grind (arith, map-append)
 
 pub passed_over : (n : List ℕ) (old : List Mention) (o : Option Mentioned) (m : Mention) → Some (mentioned m) ≡ o → is_of n (mentioned m) ≡ false → map mentioned old ≡ map mentioned old ++ of_name n (option_to_list o)
-passed_over n old o m is differs =
-    let one : of_name n (option_to_list (Some (mentioned m))) ≡ [] = ap (λ (v : Bool). if v then mentioned m ∷ [] else []) differs in
-    sym (ap (λ xs. map mentioned old ++ xs) (ap (λ p. of_name n (option_to_list p)) (sym is) ∙ one) ∙ append-nil (map mentioned old))
+passed_over n old o m is differs = grind (arith, append-nil)
 
 pub none_added : (n : List ℕ) (old : List Mention) (o : Option Mentioned) → None ≡ o → map mentioned old ≡ map mentioned old ++ of_name n (option_to_list o)
 none_added n old o is = sym (ap (λ p. map mentioned old ++ of_name n (option_to_list p)) (sym is) ∙ append-nil (map mentioned old))
 
 -- a node's own mention and the rows below and after it are what its row has
 pub joined : (n : List ℕ) (mine below rest all found : List Mentioned) → (found ++ of_name n mine) ++ of_name n (below ++ (rest ++ all)) ≡ found ++ of_name n ((mine ++ (below ++ rest)) ++ all)
-joined n mine below rest all found =
-    let same : (mine ++ (below ++ rest)) ++ all ≡ mine ++ (below ++ (rest ++ all)) = append_assoc mine (below ++ rest) all ∙ ap (λ xs. mine ++ xs) (append_assoc below rest all) in
-    append_assoc found (of_name n mine) (of_name n (below ++ (rest ++ all)))
-    ∙ ap (λ xs. found ++ xs) (sym (filter-append (is_of n) mine (below ++ (rest ++ all))) ∙ ap (of_name n) (sym same))
+joined n mine below rest all found = grind (arith, append_assoc, filter-append)
 
 -- ---- some of them
 
 kept_by : (v : Bool) (x : Mention) (xs : List Mention) (ys : List Mentioned) → map mentioned xs ≡ ys → map mentioned (if v then x ∷ xs else xs) ≡ (if v then mentioned x ∷ ys else ys)
-kept_by true x xs ys e = ap (λ zs. mentioned x ∷ zs) e
-kept_by false x xs ys e = e
+kept_by v x xs ys e = grind arith
 
 -- some are kept by what they mention
 pub kept : (test : Mentioned → Bool) (xs : List Mention) → map mentioned (filter (λ m. test (mentioned m)) xs) ≡ filter test (map mentioned xs)

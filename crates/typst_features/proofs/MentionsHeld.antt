@@ -1,25 +1,18 @@
 -- Which of the mentions of trees holds a byte.
-use Rattle.std.proofs.Common.{◌≡◌, ℕ, ◌+◌, ◌^◌, ◌-◌, ◌<◌, ◌≤◌, Bool, true, false, List, [], ◌∷◌, ◌++◌, length, length-append, Option, None, Some, option_and_then, option_map, option_to_list, refl, ap, sym, ◌∙◌, arith, inl, inr, if◌then◌else◌}
+use Rattle.typst_features.proofs.Cited.{◌≡◌, ℕ, ◌+◌, ◌^◌, ◌-◌, ◌≤◌, Bool, false, List, [], ◌∷◌, ◌++◌, length-append, Option, None, Some, option_and_then, option_to_list, refl, ap, sym, ◌∙◌, arith, if◌then◌else◌, Forest, none, more, Tree, Standing, kid_at, inner, behind, range, Head, around, holds}
 use Rattle.std.specs.Option.{option_or}
 use Rattle.std.specs.declared.ops.Range.{Range}
 use Rattle.std.proofs.lemmas.Bool.Decides.{leb_tells, nat_tests}
-use Rattle.typst_kinds.specs.Head.{Head}
-use Rattle.typst_tree.specs.Tree.{Forest, none, more, Tree, joined}
-use Rattle.typst_names.specs.Around.{Standing, kid_at}
-use Rattle.typst_names.specs.Bytes.{inner, behind, range}
-use Rattle.typst_names.specs.Selections.{around, holds}
 use Rattle.typst_names.proofs.HoldingNodes.{around-before, around-within, kid-held, kid-passed}
-use Rattle.typst_features.specs.Labels.{Mentioned, holding, if_holds, is_markup, kind_of, name_of, own, own_bytes, row}
+use Rattle.typst_features.specs.Labels.{Mentioned, holding, if_holds, is_markup, own, own_bytes, row}
 
 -- ---- the first of some mentions
 
 or_none : (p : Option Mentioned) → option_or p None ≡ p
-or_none None = refl
-or_none (Some m) = refl
+or_none p = grind arith
 
 or_either : (p q r : Option Mentioned) → option_or (option_or p q) r ≡ option_or p (option_or q r)
-or_either None q r = refl
-or_either (Some m) q r = refl
+or_either p q r = grind arith
 
 holding-append : (b : ℕ) (xs ys : List Mentioned) → holding b (xs ++ ys) ≡ option_or (holding b xs) (holding b ys)
 holding-append b [] ys = refl
@@ -31,39 +24,22 @@ holding_three b xs ys zs = holding-append b xs (ys ++ zs) ∙ ap (option_or (hol
 -- ---- a node's own
 
 holding_own : (b : ℕ) (o : Option Mentioned) → holding b (option_to_list o) ≡ option_and_then (if_holds b) o
-holding_own b None = refl
-holding_own b (Some m) = or_none (if_holds b m)
-
-out_by : (b : ℕ) (r : Range ℕ) (o : Option (List ℕ)) (made : List ℕ → Mentioned) → ((name : List ℕ) → (made name).range ≡ r) → holds b r ≡ false → option_and_then (if_holds b) (option_map made o) ≡ None
-out_by b r None made is e = refl
-out_by b r (Some name) made is e = ap (λ (v : Bool). if v then Some (made name) else None) (ap (holds b) (is name) ∙ e)
+holding_own b o = grind arith
 
 own_out : (b a : ℕ) (in_markup : Bool) (h : Head) → holds b (own_bytes a h) ≡ false → holding b (option_to_list (own in_markup a h)) ≡ None
-own_out b a in_markup h e =
-    let made : List ℕ → Mentioned = λ name. record { kind = kind_of h.kind in_markup; range = own_bytes a h; name = name } in
-    holding_own b (own in_markup a h) ∙ out_by b (own_bytes a h) (name_of h.kind h.text) made (λ name. refl) e
+own_out b a in_markup h e = grind arith
 
 -- a node's own text doesn't hold a byte that the node doesn't hold
 own_within : (b a : ℕ) (h : Head) (ks : Forest) → holds b (range a h ks) ≡ false → holds b (own_bytes a h) ≡ false
-own_within b a h ks fails =
-    let whole : length (h.text ++ joined ks) ≡ length h.text + length (joined ks) = length-append h.text (joined ks) in
-    elim (leb_tells a b) [
-      | inl begun ↦
-          let ended : behind a h ks ≤ b = grind (arith, nat_tests, fails, begun.1) in
-          let over : inner a h ≤ b = omega (arith, whole, ended) in
-          grind (arith, nat_tests, over)
-      | inr before ↦ let late : b < a = before.1 in grind (arith, nat_tests, late)
-    ]
+own_within b a h ks fails = grind (arith, length-append, leb_tells, nat_tests)
 
 -- ---- where no node holds the byte no mention does
 
 out_of : (t : Bool) (x : Range ℕ) (ys : List (Range ℕ)) → (if t then x ∷ [] else []) ++ ys ≡ [] → t ≡ false
-out_of true x ys e = cc
-out_of false x ys e = refl
+out_of t x ys e = grind arith
 
 rest_of : (t : Bool) (x : Range ℕ) (ys : List (Range ℕ)) → (if t then x ∷ [] else []) ++ ys ≡ [] → ys ≡ []
-rest_of true x ys e = cc
-rest_of false x ys e = e
+rest_of t x ys e = grind arith
 
 left_of : (xs ys : List (Range ℕ)) → xs ++ ys ≡ [] → xs ≡ []
 left_of [] ys e = refl
@@ -93,23 +69,7 @@ held_in b in_markup (Some s) = holding b (row in_markup s.start (more s.node.hea
 
 by_first : (b a : ℕ) (in_markup : Bool) (t : Tree) (r : Forest) (v : Bool) → holds b (range a t.head t.kids) ≡ v → holding b (row in_markup (behind a t.head t.kids) r) ≡ held_in b in_markup (kid_at b (behind a t.head t.kids) r)
     → holding b (row in_markup a (more t.head t.kids r)) ≡ held_in b in_markup (kid_at b a (more t.head t.kids r))
-by_first b a in_markup t r true held later =
-    let mine : List Mentioned = option_to_list (own in_markup a t.head) in
-    let below : List Mentioned = row (is_markup t.head.kind) (inner a t.head) t.kids in
-    let before : b < behind a t.head t.kids = grind (arith, nat_tests, held) in
-    let none_later : holding b (row in_markup (behind a t.head t.kids) r) ≡ None = none_around b (behind a t.head t.kids) in_markup r (around-before b (behind a t.head t.kids) r before) in
-    holding_three b mine below (row in_markup (behind a t.head t.kids) r)
-    ∙ ap (λ (x : Option Mentioned). option_or (holding b mine) (option_or (holding b below) x)) none_later
-    ∙ sym (holding_three b mine below [])
-    ∙ sym (ap (held_in b in_markup) (kid-held b a t r held))
-by_first b a in_markup t r false fails later =
-    let mine : List Mentioned = option_to_list (own in_markup a t.head) in
-    let below : List Mentioned = row (is_markup t.head.kind) (inner a t.head) t.kids in
-    let first : holding b mine ≡ None = own_out b a in_markup t.head (own_within b a t.head t.kids fails) in
-    let second : holding b below ≡ None = none_around b (inner a t.head) (is_markup t.head.kind) t.kids (around-within b a t.head t.kids fails) in
-    holding_three b mine below (row in_markup (behind a t.head t.kids) r)
-    ∙ (λ i. option_or (first i) (option_or (second i) (later i)))
-    ∙ sym (ap (held_in b in_markup) (kid-passed b a t r fails))
+by_first b a in_markup t r v held later = grind (arith, nat_tests, none_around, around-before, holding_three, kid-held, own_out, own_within, around-within, kid-passed)
 
 holding-kid : (b a : ℕ) (in_markup : Bool) (f : Forest) → holding b (row in_markup a f) ≡ held_in b in_markup (kid_at b a f)
 holding-kid b a in_markup none = refl
@@ -121,10 +81,7 @@ holding-kid b a in_markup (more h ks r) =
 
 after_by : (b a : ℕ) (t : Tree) (r : Forest) (s : Standing) (v : Bool) → holds b (range a t.head t.kids) ≡ v → a ≤ 2 ^ 64 - 1 → kid_at b a (more t.head t.kids r) ≡ Some s → (kid_at b (behind a t.head t.kids) r ≡ Some s → behind a t.head t.kids ≤ b)
     → a ≤ b
-after_by b a t r s true held l e later = grind (arith, nat_tests, held)
-after_by b a t r s false fails l e later =
-    let far : behind a t.head t.kids ≤ b = later (sym (kid-passed b a t r fails) ∙ e) in
-    omega (arith, l, far)
+after_by b a t r s v held l e later = grind arith
 
 kid_after : (b a : ℕ) (f : Forest) (s : Standing) → a ≤ 2 ^ 64 - 1 → kid_at b a f ≡ Some s → a ≤ b
 kid_after b a none s l e = cc
@@ -146,9 +103,4 @@ in_kid b a in_markup t s e =
 
 -- otherwise it is the node's own
 pub in_itself : (b a : ℕ) (in_markup : Bool) (t : Tree) → kid_at b (inner a t.head) t.kids ≡ None → holding b (row in_markup a (more t.head t.kids none)) ≡ option_and_then (if_holds b) (own in_markup a t.head)
-in_itself b a in_markup t e =
-    let mine : List Mentioned = option_to_list (own in_markup a t.head) in
-    let below : List Mentioned = row (is_markup t.head.kind) (inner a t.head) t.kids in
-    let first : holding b mine ≡ option_and_then (if_holds b) (own in_markup a t.head) = holding_own b (own in_markup a t.head) in
-    let second : holding b below ≡ None = holding-kid b (inner a t.head) (is_markup t.head.kind) t.kids ∙ ap (held_in b (is_markup t.head.kind)) e in
-    holding_three b mine below [] ∙ (λ i. option_or (first i) (option_or (second i) None)) ∙ or_none (option_and_then (if_holds b) (own in_markup a t.head))
+in_itself b a in_markup t e = grind (arith, holding_own, holding-kid, holding_three)

@@ -1,14 +1,9 @@
 -- What is named at a byte, by what was found.
-use Rattle.std.proofs.Common.{◌≡◌, ℕ, List, [], ◌∷◌, Option, None, Some, option_map, refl, ap, sym, ◌∙◌, slice_get}
-use Rattle.std.specs.Borrow.{Bor}
-use Rattle.std.specs.Prelude.{map}
+use Rattle.typst_features.proofs.Cited.{◌≡◌, ℕ, List, [], ◌∷◌, Option, None, Some, option_map, refl, ap, ◌∙◌, slice_get, arith, map, Mentioned, mentioned, bound_known, name_known, occurrence, Mention, Bor}
 use Rattle.std.specs.Slice.{IsItemAt}
 use Rattle.std.proofs.lemmas.Option.{slice_get-get_or, slice_get_past}
 use Rattle.typst_names.specs.Meanings.{binding_of, name_at}
 use Rattle.typst_names.specs.declared.scopes.Name.{Name}
-use Rattle.typst_features.specs.Labels.{Mentioned, mentioned}
-use Rattle.typst_features.specs.Renames.{bound_known, name_known, occurrence}
-use Rattle.typst_features.specs.declared.naming.Mention.{Mention}
 
 -- mentions as occurrences
 pub occurred : (found : List Mention) (ms : List Mentioned) → map mentioned found ≡ ms → map (λ m. occurrence (mentioned m)) found ≡ map occurrence ms
@@ -20,8 +15,7 @@ occurred found ms e = by_each found ∙ ap (map occurrence) e
 
 -- the name that is lent, if there is one
 pub lent : (ns : List Name) (i : ℕ) (r : Option (Bor Name)) → IsItemAt ns i r → option_map (λ n. n.now) r ≡ slice_get ns i
-lent ns i None h = sym (slice_get_past ns i h.3)
-lent ns i (Some n) h = ap (λ x. Some x) h.1 ∙ sym (slice_get-get_or ns i n.now h.3.0)
+lent ns i r h = grind (arith, slice_get_past, slice_get-get_or)
 
 -- no name stands there
 pub unnamed : (text : List ℕ) (ns all : List Name) (b : ℕ) → ns ≡ all → None ≡ name_at ns b → None ≡ name_known text all (name_at all b)

@@ -1,14 +1,6 @@
 -- The problems of a tree, by the nodes that a walk comes to.
-use Rattle.std.proofs.Common.{◌≡◌, ℕ, ◌+◌, List, [], ◌∷◌, ◌++◌, length, refl, ap, sym, ◌∙◌, append-nil}
-use Rattle.std.proofs.lemmas.Grind.{flat_map-append}
-use Rattle.std.specs.Prelude.{if◌then◌else◌}
-use Rattle.std.specs.List.{flat_map}
-use Rattle.typst_kinds.specs.Diagnostic.{Diagnostic}
-use Rattle.typst_kinds.specs.Head.{has_any}
-use Rattle.typst_tree.specs.Tree.{Forest, none, more, Tree, joined, saturated, text_of}
-use Rattle.typst_tree.specs.Preorder.{Visited, walk, diagnosed}
+use Rattle.typst_features.proofs.Cited.{◌≡◌, ℕ, ◌+◌, List, [], ◌∷◌, ◌++◌, length, refl, ap, ◌∙◌, append-nil, arith, Forest, none, more, Tree, joined, saturated, text_of, Visited, walk, diagnosed, inner, behind, flat_map-append, flat_map, Diagnostic}
 use Rattle.typst_tree.specs.Preorder as visits
-use Rattle.typst_names.specs.Bytes.{inner, behind}
 use Rattle.typst_features.specs.Problems.{Reported, own, row, node}
 
 -- what is reported of a node that a walk comes to
@@ -27,20 +19,12 @@ of_row o d (more h ks r) =
 
 -- those of the nodes that a walk through a tree comes to are the tree's
 pub of_walk : (t : Tree) → flat_map own_of (walk 0 t) ≡ node 0 t
-of_walk t =
-    of_row 0 0 (more t.head t.kids none)
-    ∙ ap (λ rs. own 0 (length (t.head.text ++ joined t.kids)) t.head.diagnostics ++ rs) (append-nil (row (inner 0 t.head) t.kids))
+of_walk t = grind (arith, of_row, append-nil)
 
 -- of one more node that a walk comes to
 with_one : (v : Visited) (vs : List Visited) (ds : List Diagnostic) → v.node.head.diagnostics ≡ ds → flat_map own_of (diagnosed vs) ≡ flat_map own_of vs
     → flat_map own_of (diagnosed (v ∷ vs)) ≡ flat_map own_of (v ∷ vs)
-with_one v vs [] clean later =
-    ap (λ ds. flat_map own_of (if has_any ds then v ∷ diagnosed vs else diagnosed vs)) clean
-    ∙ later
-    ∙ sym (ap (λ ds. own v.offset (length (text_of v.node)) ds ++ flat_map own_of vs) clean)
-with_one v vs (d ∷ ds) faulty later =
-    ap (λ ds. flat_map own_of (if has_any ds then v ∷ diagnosed vs else diagnosed vs)) faulty
-    ∙ ap (λ rs. own_of v ++ rs) later
+with_one v vs ds clean later = grind arith
 
 -- nodes without errors and warnings have none that are reported
 pub of_diagnosed : (vs : List Visited) → flat_map own_of (diagnosed vs) ≡ flat_map own_of vs

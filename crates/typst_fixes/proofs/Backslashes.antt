@@ -1,12 +1,6 @@
 -- Whether a backslash would stand in markup, by the length of its row.
-use Rattle.std.proofs.Common.{◌≡◌, ℕ, Bool, true, false, List, codes, length, Option, Some, ap, sym, ◌∙◌, if◌then◌else◌}
-use Rattle.std.specs.Prelude.{nat_lt, not}
-use Rattle.typst_kinds.specs.Kinds.{same}
+use Rattle.typst_fixes.proofs.Cited.{◌≡◌, ℕ, Bool, true, false, List, codes, length, Option, Some, ap, sym, ◌∙◌, if◌then◌else◌, nat_lt, not, same, Tree, forest, trees, Standing, takes_backslash, is_kept}
 use Rattle.typst_kinds.specs.declared.kind.SyntaxKind.TheVariants as node
-use Rattle.typst_tree.specs.Tree.{Tree, forest, trees}
-use Rattle.typst_names.specs.Around.{Standing}
-use Rattle.typst_fixes.specs.Fixes.{takes_backslash}
-use Rattle.typst_fixes.specs.Gaps.{is_kept}
 use Rattle.typst_fixes.proofs.WayToByte.{children}
 
 by_length : (p : Standing) (b : ℕ) (ts : List Tree) (long : Bool) → forest ts ≡ p.node.kids → same node.Markup p.node.head.kind ≡ true → nat_lt 1024 (length ts) ≡ long

@@ -1,10 +1,6 @@
 -- The nodes that hold a byte, each a child of the one before it.
-use Rattle.std.proofs.Common.{◌≡◌, ℕ, Bool, true, false, List, [], ◌∷◌, length, Option, None, Some, refl, ap, sym, ◌∙◌, if◌then◌else◌}
-use Rattle.typst_tree.specs.Tree.{Forest, none, more, Tree, forest, trees}
-use Rattle.typst_names.specs.Around.{Standing, kid_at}
-use Rattle.typst_names.specs.Bytes.{inner, behind, range}
+use Rattle.typst_fixes.proofs.Cited.{◌≡◌, ℕ, Bool, true, false, List, [], ◌∷◌, length, Option, None, Some, refl, ap, sym, ◌∙◌, if◌then◌else◌, Forest, none, more, Tree, forest, trees, Standing, kid_at, path, within, inner, behind, range}
 use Rattle.typst_names.specs.Selections.{holds}
-use Rattle.typst_fixes.specs.Gaps.{path, within}
 
 -- a node, if there is one, and those within it that hold byte b
 abbrev pub way : ℕ → Option Standing → List Standing

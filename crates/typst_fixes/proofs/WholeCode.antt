@@ -1,10 +1,6 @@
 -- Code that is read whole, and code that isn't.
-use Rattle.std.proofs.Common.{◌≡◌, ℕ, Bool, true, false, List, [], ◌∷◌, length, Option, None, Some, refl, ap, sym, ◌∙◌, if◌then◌else◌}
+use Rattle.typst_fixes.proofs.Cited.{◌≡◌, Bool, true, false, List, ◌∷◌, length, ap, sym, ◌∙◌, if◌then◌else◌, arith, Tree, forest, trees, Standing, kind_of, begins_whole, ends_with_value, first_whole, is_atom, is_called, is_whole}
 use Rattle.typst_kinds.specs.declared.kind.SyntaxKind.{SyntaxKind}
-use Rattle.typst_tree.specs.Tree.{Tree, forest, trees}
-use Rattle.typst_names.specs.Around.{Standing}
-use Rattle.typst_fixes.specs.Gaps.{kind_of}
-use Rattle.typst_fixes.specs.Wrapped.{begins_whole, ends_with_value, first_whole, is_atom, is_called, is_whole}
 use Rattle.typst_fixes.proofs.WayToByte.{children}
 
 called_as : (n : Standing) (ts : List Tree) (k : SyntaxKind) (v : Bool) → forest ts ≡ n.node.kids → k ≡ kind_of n → is_called k (length ts) ≡ v → is_called (kind_of n) (length (trees n.node.kids)) ≡ v
@@ -21,6 +17,4 @@ further n ns ts k kids kind is = ap (λ (v : Bool). if v then begins_whole ns el
 
 -- the value at the end of what isn't whole is sought within it
 pub within_it : (n : Standing) (ns : List Standing) → is_whole n ≡ false → ends_with_value (kind_of n) (trees n.node.kids) ≡ true → first_whole (n ∷ ns) ≡ first_whole ns
-within_it n ns whole value =
-    ap (λ (v : Bool). if v then Some n.start else (if ends_with_value (kind_of n) (trees n.node.kids) then first_whole ns else None)) whole
-    ∙ ap (λ (v : Bool). if v then first_whole ns else None) value
+within_it n ns whole value = grind arith

@@ -1,9 +1,5 @@
 -- The last node among a node and those below it.
-use Rattle.std.proofs.Common.{◌≡◌, ◌+◌, ◌<◌, Bool, true, false, ◌&&◌, ◌||◌, not, List, [], ◌∷◌, ◌++◌, length, ap, sym, ◌∙◌, arith, append_assoc, append-nil}
-use Rattle.typst_kinds.specs.declared.kind.SyntaxKind.{SyntaxKind}
-use Rattle.typst_tree.specs.Tree.{Forest, Tree, count, forest, nodes, places, preorder}
-use Rattle.typst_tree.specs.Walks.{is_childless}
-use Rattle.typst_flat.specs.Placed.{EndsIn, EndsWith, is_settled}
+use Rattle.typst_flat.proofs.Cited.{◌≡◌, ◌+◌, ◌<◌, Bool, true, false, ◌&&◌, ◌||◌, not, List, [], ◌∷◌, ◌++◌, length, ap, sym, ◌∙◌, arith, append_assoc, append-nil, SyntaxKind, Forest, Tree, count, forest, nodes, places, preorder, is_childless, EndsIn, EndsWith, is_settled}
 
 pub no_kids : (f : Forest) → is_childless f ≡ true → count f ≡ 0
 no_kids f e = grind arith

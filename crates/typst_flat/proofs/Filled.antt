@@ -1,13 +1,6 @@
 -- The records of the nodes that a walk has come to are in an array.
-use Rattle.std.proofs.Common.{◌≡◌, ℕ, ◌+◌, ◌<◌, ◌≤◌, List, [], set, length, arith}
-use Rattle.std.proofs.lemmas.List.{length-map}
-use Rattle.typst_tree.specs.Tree.{Tree, nodes}
-use Rattle.typst_tree.specs.Steps.{at, offset_of, end_of}
-use Rattle.typst_flat.specs.Records.{filled, node_record, records_in}
-use Rattle.typst_flat.specs.Placed.{Course, IsFilled, Moves}
-use Rattle.typst_flat.specs.Walk.{ahead_from}
+use Rattle.typst_flat.proofs.Cited.{◌≡◌, ℕ, ◌+◌, ◌<◌, ◌≤◌, List, [], set, length, arith, length-map, Tree, nodes, at, offset_of, end_of, filled, node_record, records_in, Course, IsFilled, Moves, ahead_from, Stretch}
 use Rattle.typst_flat.specs.declared.records.Node.{Node}
-use Rattle.typst_flat.specs.declared.records.Stretch.{Stretch}
 use Rattle.typst_flat.proofs.Filling.{first_left, left_next, none_left, step_fits, step_full}
 use Rattle.typst_flat.proofs.Placing.{one_meets, one_passes}
 

@@ -1,8 +1,5 @@
 -- What an array holds into which a list is put.
-use Rattle.std.proofs.Common.{◌≡◌, ℕ, zero, suc, ◌+◌, ◌^◌, ◌<◌, ◌≤◌, List, [], ◌∷◌, ◌++◌, length, take, drop, map, refl, ap, sym, ◌∙◌, arith, set, get_or, append_assoc, length-append, length-take}
-use Rattle.std.proofs.lemmas.List.{length-map, map-append, take_more}
-use Rattle.typst_tree.specs.Tree.{saturated}
-use Rattle.typst_flat.specs.Records.{filled}
+use Rattle.typst_flat.proofs.Cited.{◌≡◌, ℕ, zero, suc, ◌+◌, ◌^◌, ◌<◌, ◌≤◌, List, [], ◌∷◌, ◌++◌, length, take, drop, map, refl, ap, sym, ◌∙◌, arith, set, get_or, append_assoc, length-append, length-take, length-map, map-append, take_more, saturated, filled}
 
 -- one more that fits
 pub filled_more : {A : Type 0} (xs old : List A) (x : A) → length xs < length old → set (filled xs old) (length xs) x ≡ filled (xs ++ x ∷ []) old

@@ -10,6 +10,7 @@
 --   all nodes                        Whole
 --   remarks                          Sayings
 --   kinds and tags by numbers        Numbered
+pub mod Cited
 pub mod Endings
 pub mod Filled
 pub mod Filling

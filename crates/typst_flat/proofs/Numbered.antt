@@ -1,11 +1,6 @@
 -- Tags stand in their list at the places that their numbers say.
-use Rattle.std.proofs.Common.{◌≡◌, ℕ, ◌+◌, ◌-◌, length, map, Some, refl, arith}
-use Rattle.std.specs.List.{range_with_len}
-use Rattle.std.specs.Prelude.{slice_get}
-use Rattle.typst_kinds.proofs.Places.{numbered}
-use Rattle.typst_highlight.specs.Tags.{all_tags}
+use Rattle.typst_flat.proofs.Cited.{◌≡◌, ℕ, ◌+◌, ◌-◌, length, map, Some, refl, arith, range_with_len, tag_code, numbered, all_tags, slice_get}
 use Rattle.typst_highlight.specs.declared.tags.Tag.{Tag}
-use Rattle.typst_flat.specs.Codes.{tag_code}
 
 tags_rise : map (λ t. tag_code (Some t)) all_tags ≡ range_with_len 1 22
 tags_rise = refl

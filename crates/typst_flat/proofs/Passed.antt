@@ -1,18 +1,7 @@
 -- A node that doesn't meet a stretch has none below it that does.
-use Rattle.std.proofs.Common.{◌≡◌, ℕ, zero, suc, ◌+◌, ◌<◌, ◌≤◌, false, List, [], ◌∷◌, ◌++◌, length, map, Option, Some, refl, ap, sym, subst, ◌∙◌, arith, inl, inr, append-nil, length-append}
-use Rattle.std.specs.List.{filter}
+use Rattle.typst_flat.proofs.Cited.{◌≡◌, ℕ, zero, suc, ◌+◌, ◌<◌, ◌≤◌, false, List, [], ◌∷◌, ◌++◌, length, map, Option, Some, refl, ap, sym, subst, ◌∙◌, arith, inl, inr, append-nil, length-append, filter, nat_tests, Head, texts, at, node_of, start_of, texts_append, texts_places, tree_of, Stand, here, starts, below, behind, numbers_from, meets, Stretch}
 use Rattle.std.proofs.lemmas.Bool.{cases_lt}
-use Rattle.std.proofs.lemmas.Bool.Decides.{nat_tests}
-use Rattle.typst_kinds.specs.Head.{Head}
 use Rattle.typst_tree.specs.Tree.{Forest, none, more, Tree, count, joined, places, preorder, text_of}
-use Rattle.typst_tree.specs.Walks.{texts}
-use Rattle.typst_tree.specs.Steps.{at, node_of, start_of}
-use Rattle.typst_tree.proofs.WalksInPreorder.{texts_append, texts_places}
-use Rattle.typst_highlight.specs.Walk.{tree_of}
-use Rattle.typst_highlight.proofs.Rows.{Stand, here, starts, below, behind}
-use Rattle.typst_highlight.specs.Spans.{numbers_from}
-use Rattle.typst_flat.specs.Records.{meets}
-use Rattle.typst_flat.specs.declared.records.Stretch.{Stretch}
 
 -- the node at j lies within the bytes a up to b
 pub record Within (root : Tree) (j a b : ℕ) : Type 0 where

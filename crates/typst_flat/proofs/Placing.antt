@@ -1,36 +1,16 @@
 -- The walk through the nodes of a tree with their tags, step by step.
-use Rattle.std.proofs.Common.{◌≡◌, ℕ, zero, suc, ◌+◌, ◌-◌, ◌^◌, ◌<◌, ◌≤◌, true, false, ◌&&◌, not, List, [], ◌∷◌, ◌++◌, length, map, take, drop, Option, None, Some, refl, ap, sym, subst, ◌∙◌, arith, append_assoc, append-nil, length-append}
-use Rattle.std.specs.List.{filter}
-use Rattle.std.proofs.lemmas.Bool.Decides.{nat_tests}
-use Rattle.typst_kinds.specs.Head.{Head}
-use Rattle.typst_kinds.specs.Kinds.{is_error, is_trivia}
-use Rattle.typst_kinds.specs.declared.kind.SyntaxKind.{SyntaxKind}
-use Rattle.typst_tree.specs.Boundaries.{IsBoundary}
+use Rattle.typst_flat.proofs.Cited.{◌≡◌, ℕ, zero, suc, ◌+◌, ◌-◌, ◌^◌, ◌<◌, ◌≤◌, true, false, ◌&&◌, not, List, [], ◌∷◌, ◌++◌, length, map, take, drop, Option, None, Some, refl, ap, sym, subst, ◌∙◌, arith, append_assoc, append-nil, length-append, filter, nat_tests, Head, SyntaxKind, IsBoundary, is_childless, is_leaf, At, at, kind_of, node_of, offset_of, end_of, prev_leaf, kids_are, length_places, numbers_from, Stand, here, below, behind, alone, parent_here, cut, tag_code, meets, number_if, ahead_from, up_number, AreReady, Course, EndsIn, IsBehind, IsPlaced, IsSought, Moves, Passes, RowFits, Stays, PlacedNode, Stretch, is_error, is_trivia, Waiting, is_dot, is_name}
 use Rattle.typst_tree.specs.Tree.{Forest, none, more, Tree, forest, count, joined as text_in, nodes, places, preorder, saturated, text_of, trees}
-use Rattle.typst_tree.specs.Walks.{is_childless, is_leaf}
-use Rattle.typst_tree.specs.Steps.{At, at, kind_of, node_of, offset_of, end_of, prev_leaf}
 use Rattle.typst_tree.specs.declared.boundary.Boundary.{Boundary}
-use Rattle.typst_tree.proofs.Boundaries.{kids_are}
 use Rattle.typst_tree.proofs.ReplacesChildren.{start_le}
-use Rattle.typst_tree.proofs.WalksInPreorder.{length_places}
 use Rattle.typst_highlight.specs.declared.context.Context.{Context}
 use Rattle.typst_highlight.specs.declared.context.Trail.{Trail}
-use Rattle.typst_highlight.specs.declared.progress.Waiting.{Waiting}
 use Rattle.typst_highlight.specs.Nodes.{tag_of}
-use Rattle.typst_highlight.specs.Rules.{is_dot, is_name}
-use Rattle.typst_highlight.specs.Spans.{numbers_from}
 use Rattle.typst_highlight.specs.Walk.{tree_of, ahead_of, end, first_ahead, first_leaf, joined, resumed, root_context, tag, waiting, within, past, passed}
-use Rattle.typst_highlight.proofs.Rows.{Stand, here, below, behind, alone, parent_here}
 use Rattle.typst_highlight.proofs.Leaves.{ahead_at, ahead_is, first_law, offset_behind, prev_here, trail_at}
 use Rattle.typst_highlight.proofs.Contexts.{Fits, fits_below, fits_behind, fits_root, passed_here}
 use Rattle.typst_highlight.proofs.Trees.{tag_law}
 use Rattle.typst_highlight.proofs.Nears.{Alike, Near, past_near, passed_near, same_context, tag_near, within_near}
-use Rattle.typst_flat.specs.Codes.{cut, tag_code}
-use Rattle.typst_flat.specs.Records.{meets, number_if}
-use Rattle.typst_flat.specs.Walk.{ahead_from, up_number}
-use Rattle.typst_flat.specs.Placed.{AreReady, Course, EndsIn, IsBehind, IsPlaced, IsSought, Moves, Passes, RowFits, Stays}
-use Rattle.typst_flat.specs.declared.placed.PlacedNode.{PlacedNode}
-use Rattle.typst_flat.specs.declared.records.Stretch.{Stretch}
 use Rattle.typst_flat.proofs.Endings.{no_kids}
 use Rattle.typst_flat.proofs.Passed.{outside, passed_over}
 use Rattle.typst_flat.proofs.Steps.{up_of, within_nodes}
@@ -301,12 +281,6 @@ sought_near w b ts s one row few is early later =
     let rest : drop i kids ≡ ts = ap (drop i) (sym same) ∙ sym later in
     grind arith
 
--- the root is the node of number 0
-pub first_is_root : (w : Course) (t : Tree) (r : List Tree) → Stays w → w.nodes.now ≡ t ∷ r → w.number ≡ 0 → t ≡ w.root.now
-first_is_root w t r s e none_before =
-    let f = first_of w t r s e in
-    sym (here w.root.now w.number t f.front _ f.stands.whole f.stands.number) ∙ ap (λ k. node_of (at w.root.now k)) none_before
-
 -- the leaves before a node, where the last one is neither a name nor a dot
 abbrev one_leaf : SyntaxKind → Trail
 one_leaf k = record { before = Some k; name = None; earlier = None }
@@ -350,9 +324,6 @@ stays_sought v w t r e n k p last root near number up row around rows =
     goes
     (subst (λ q. AreReady v.root.now q (waiting v.progress)) total s.ready)
     (s.above ∙ sym up) root near (number ∙ p.number) (ap forest row) around rows
-
-pub passes_none : (v : Course) → Passes v v
-passes_none v = record { onward = omega arith; still = λ e. refl; left = refl }
 
 pub passes_to : (v w : Course) (r : List Tree) (e n : ℕ) → IsSought v r e n → v.number < n → w.number ≡ n → Passes v w
 passes_to v w r e n q on number = grind arith

@@ -1,10 +1,5 @@
 -- What is said, one remark after the other.
-use Rattle.std.proofs.Common.{◌≡◌, ℕ, suc, ◌+◌, ◌^◌, ◌<◌, ◌≤◌, List, [], ◌∷◌, ◌++◌, length, refl, ap, ◌∙◌, arith, set, append_assoc, append-nil, length-append}
-use Rattle.std.proofs.lemmas.List.Concat.{flat_map-append}
-use Rattle.typst_tree.specs.Tree.{saturated}
-use Rattle.typst_flat.specs.Records.{filled}
-use Rattle.typst_flat.specs.Said.{Saying, IsWritten, joined, remark_at, remarks_from}
-use Rattle.typst_flat.specs.declared.records.Remark.{Remark}
+use Rattle.typst_flat.proofs.Cited.{◌≡◌, ℕ, suc, ◌+◌, ◌^◌, ◌<◌, ◌≤◌, List, [], ◌∷◌, ◌++◌, length, refl, ap, ◌∙◌, arith, set, append_assoc, append-nil, length-append, flat_map-append, saturated, filled, Saying, IsWritten, joined, remark_at, remarks_from, Remark}
 use Rattle.typst_flat.specs.declared.said.Said.{Said}
 use Rattle.typst_flat.proofs.Filling.{filled_more, filled_full, length_filled}
 

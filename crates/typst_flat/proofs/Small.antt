@@ -1,10 +1,5 @@
 -- The nodes of a small tree are counted in 32 bits, and so are the bytes before them.
-use Rattle.std.proofs.Common.{ℕ, ◌<◌, [], None, arith, append-nil}
-use Rattle.typst_tree.specs.Tree.{more, none, Tree, nodes}
-use Rattle.typst_tree.specs.Steps.{at}
-use Rattle.typst_highlight.proofs.Rows.{alone}
-use Rattle.typst_flat.specs.Placed.{IsNarrow, IsPlaced, IsSmall}
-use Rattle.typst_flat.specs.declared.placed.PlacedNode.{PlacedNode}
+use Rattle.typst_flat.proofs.Cited.{ℕ, ◌<◌, [], None, arith, append-nil, more, none, Tree, nodes, at, alone, IsNarrow, IsPlaced, IsSmall, PlacedNode}
 use Rattle.typst_flat.proofs.Passed.{inside}
 
 pub small_numbers : (root : Tree) (n : ℕ) (g : PlacedNode) → n < nodes root → IsSmall root → IsPlaced (at root n) g → IsNarrow g

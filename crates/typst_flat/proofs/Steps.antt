@@ -1,24 +1,7 @@
 -- The steps of a walk.
-use Rattle.std.proofs.Common.{◌≡◌, ℕ, zero, suc, ◌+◌, ◌-◌, ◌^◌, ◌<◌, ◌≤◌, true, false, List, [], ◌∷◌, ◌++◌, length, take, map, Option, None, Some, refl, ap, sym, subst, ◌∙◌, arith, get_or, set, length-append}
-use Rattle.std.specs.Prelude.{reverse}
-use Rattle.std.proofs.lemmas.Bool.Decides.{nat_tests}
+use Rattle.typst_flat.proofs.Cited.{◌≡◌, ℕ, zero, suc, ◌+◌, ◌-◌, ◌^◌, ◌<◌, ◌≤◌, true, false, List, [], ◌∷◌, ◌++◌, length, take, map, Option, None, Some, refl, ap, sym, subst, ◌∙◌, arith, get_or, set, length-append, reverse, nat_tests, reverse-append, take_all, take_more, take_more_set, filter, Head, Forest, none, more, Tree, count, nodes, places, preorder, saturated, numbers, texts, At, at, node_of, offset_of, parent, children, left, length_places, length_preorder, tree_of, Stand, here, below, behind, alone, numbers_from, number_if, meets, RowStands, IsReady, IsAt, ahead_from, up_number, Stretch, Row}
 use Rattle.std.proofs.Math.ListN.{length-set}
-use Rattle.std.proofs.lemmas.List.{reverse-append, take_all, take_more, take_more_set}
-use Rattle.std.specs.List.{filter}
 use Rattle.std.specs.Option.{option_map}
-use Rattle.typst_kinds.specs.Head.{Head}
-use Rattle.typst_tree.specs.Tree.{Forest, none, more, Tree, count, nodes, places, preorder, saturated}
-use Rattle.typst_tree.specs.Walks.{numbers, texts}
-use Rattle.typst_tree.specs.Steps.{At, at, node_of, offset_of, parent, children}
-use Rattle.typst_tree.specs.Linked.{left}
-use Rattle.typst_tree.proofs.WalksInPreorder.{length_places, length_preorder}
-use Rattle.typst_highlight.specs.Walk.{tree_of}
-use Rattle.typst_highlight.proofs.Rows.{Stand, here, below, behind, alone}
-use Rattle.typst_highlight.specs.Spans.{numbers_from}
-use Rattle.typst_flat.specs.Records.{number_if, meets}
-use Rattle.typst_flat.specs.Walk.{RowStands, IsReady, IsAt, ahead_from, up_number}
-use Rattle.typst_flat.specs.declared.records.Stretch.{Stretch}
-use Rattle.typst_flat.specs.declared.walk.Row.{Row}
 use Rattle.typst_flat.proofs.Passed.{outside, passed_over}
 
 -- trees that stand side by side end before the tree's nodes do

@@ -1,13 +1,5 @@
 -- All nodes of a tree meet the stretch of all bytes.
-use Rattle.std.proofs.Common.{◌≡◌, ℕ, zero, suc, ◌+◌, ◌-◌, ◌^◌, ◌≤◌, Bool, true, List, [], ◌∷◌, length, map, refl, ap, sym, ◌∙◌, arith}
-use Rattle.std.specs.List.{filter}
-use Rattle.std.proofs.lemmas.Bool.Decides.{nat_tests}
-use Rattle.std.proofs.lemmas.List.{length-map}
-use Rattle.typst_tree.specs.Tree.{Tree, nodes}
-use Rattle.typst_tree.specs.Steps.{At, at}
-use Rattle.typst_highlight.specs.Spans.{numbers_from}
-use Rattle.typst_flat.specs.Records.{all_of, meets, met_in, node_record, records, records_in}
-use Rattle.typst_flat.specs.declared.records.Stretch.{Stretch}
+use Rattle.typst_flat.proofs.Cited.{◌≡◌, ℕ, zero, suc, ◌+◌, ◌-◌, ◌^◌, ◌≤◌, Bool, true, List, [], ◌∷◌, length, map, refl, ap, sym, ◌∙◌, arith, filter, nat_tests, length-map, Tree, nodes, At, at, numbers_from, all_of, meets, met_in, node_record, records, records_in, Stretch}
 
 meets_all : (s : Stretch) (a : At) → s.start ≡ 0 → s.end ≡ 2 ^ 64 - 1 → meets s a ≡ true
 meets_all s a e f = grind (arith, nat_tests, e, f)

@@ -1,45 +1,14 @@
 -- What holds of each level.
-use Rattle.std.proofs.Common.{◌≡◌, ℕ, suc, ◌-◌, Bool, true, Option, Some, List, [], refl, ap, subst, sym, arith}
-use Rattle.std.specs.Prelude.{◌∷◌, IsSome, Result}
+use Rattle.typst_grammar.proofs.Cited.{◌≡◌, ℕ, suc, ◌-◌, Bool, true, Option, Some, List, [], refl, ap, subst, sym, arith, chars, SyntaxMode, Place, moved, hull_of, CharClasses, ChainSet, Role, Point, Ask, Reading, Log, no_log, with_more, with_hull, with_note, logged, meaning_of, Guess, Level, Meaning, Outcome, apart, less, start_point, run, AfterName, Call, Answer, MarkupExpr, CodeExpr, MathExpr, Pattern, peek, math_reading, content_block, markup_reading, code_block, code_reading, after_paren, hinted, Sound, Parser, ◌>>◌, run-blind, sound-level, knows-none, View, Runs, Goes, Does, Makes, Calls, Frame, Fills, Fits, Bare, at, guesses, guessing_at, Note, ◌∷◌, IsSome, Result}
 use Rattle.std.specs.declared.alloc.AllocError.{AllocError}
-use Rattle.std.specs.Str.{chars}
-use Rattle.typst_kinds.specs.declared.mode.SyntaxMode.{SyntaxMode}
 use Rattle.typst_kinds.specs.declared.mode.SyntaxMode.TheVariants as mode
-use Rattle.typst_lines.specs.Place.{Place, moved}
-use Rattle.typst_tokens.specs.Sight.{hull_of}
-use Rattle.typst_lines.specs.Classes.{CharClasses}
-use Rattle.typst_language.specs.declared.calls.ChainSet.{ChainSet}
-use Rattle.typst_language.specs.declared.calls.Note.{Note}
-use Rattle.typst_language.specs.declared.calls.Role.{Role}
-use Rattle.typst_language.specs.Point.{Point}
-use Rattle.typst_language.specs.Ask.{Ask}
 use Rattle.typst_language.specs.Ask.Ask.{looked, marked}
 use Rattle.typst_language.specs.declared.reading.AtNewline.TheVariants as newline
-use Rattle.typst_language.specs.declared.reading.Reading.{Reading}
-use Rattle.typst_language.specs.Log.{Log, no_log, with_more, with_hull, with_note, logged}
-use Rattle.typst_language.specs.Knot.{meaning_of}
-use Rattle.typst_language.specs.Meaning.{Guess, Level, Meaning, Outcome, apart, less, start_point, run}
-use Rattle.typst_language.specs.declared.calls.AfterName.{AfterName}
-use Rattle.typst_language.specs.Calls.{Call, Answer}
-use Rattle.typst_language.specs.Calls.Call.{MarkupExpr, CodeExpr, MathExpr, Pattern}
-use Rattle.typst_language.specs.Steps.{peek}
-use Rattle.typst_code.specs.Equations.{math_reading}
-use Rattle.typst_code.specs.Markup.{content_block, markup_reading}
-use Rattle.typst_code.specs.Sequences.{code_block, code_reading}
-use Rattle.typst_code.specs.Parens.{after_paren}
-use Rattle.typst_language.specs.Shape.{hinted}
-use Rattle.typst_language.specs.Sound.{Sound}
-use Rattle.typst_language.specs.Syntax.{Parser, ◌>>◌}
-use Rattle.typst_language.proofs.Blind.{run-blind}
-use Rattle.typst_language.proofs.Knot.{sound-level}
-use Rattle.typst_language.proofs.Knowing.{knows-none}
 use Rattle.typst_language.specs.Cursor.{IsStart}
-use Rattle.typst_language.specs.View.{View, Runs, Goes, Does, Makes, Calls, Frame, Fills, Fits, Bare, at}
 use Rattle.typst_language.specs.Noted.{listed}
 use Rattle.typst_code.specs.Outside.{Blocks}
 use Rattle.typst_grammar.specs.Grammar.{rules, production, meaning, level_at, max_depth, start_of, parsed, parsed_in, whole, whole_code, whole_math, whole_in, log}
 use Rattle.typst_grammar.specs.Read.{IsParsed}
-use Rattle.typst_grammar.specs.Guessing.{guesses, guessing_at}
 
 pub sound-at : (k : CharClasses) (levels : ℕ) → Sound (guessing_at k levels)
 sound-at k levels = let s = sound-level (rules k) k levels in record { within = s.within; backs = s.backs; within_block = s.within_block; backs_block = s.backs_block }

@@ -1,47 +1,13 @@
 -- What a token begins: which productions take it first, and that those of code give nodes that are no operators.
-use Rattle.std.proofs.Common.{◌≡◌, ℕ, Bool, true, false, ◌&&◌, ◌||◌, refl, inl, inr, ◌⊎◌, rules, arith}
-use Rattle.std.specs.Prelude.{not}
-use Rattle.typst_lines.specs.Classes.{CharClasses}
-use Rattle.typst_kinds.specs.Kinds.{same, among}
+use Rattle.typst_grammar.proofs.Cited.{◌≡◌, ℕ, Bool, true, false, ◌&&◌, ◌||◌, refl, inl, inr, ◌⊎◌, rules, arith, CharClasses, same, among, SyntaxKind, AfterName, Block, ChainSet, MarkupHead, CodeHead, CodeTail, argument_list, listed_arguments, content_turn, begin_arguments, arguments, calls_directly, let_binding, after_name, after_underscore, name_shape, underscore_shape, closure_shape, right_side, headed, named, placeholder, embedded, between_dollars, equation, code_head, code_by, unary_expr, code_primary, call_tail, tail_by, code_expr, binary_expr, not_in, group, delimited, heading, item, term_item, reference, markup_by, content_block, math_head, math_text, root, math_by, math_primary, math_grown, math_expr, params, as_group, readings, parens, destructuring, code_block, field, set_rule, show_shape, show_rule, contextual, conditional_turn, conditional, while_loop, for_loop, module_include, jump, func_return, seeing, AtHand, Shape, peek, within, eat, convert_and_eat, eat_making, node, grow, nest, read_block, ◌>>=◌, gives, block_production, MathHead, module_import, begins_code, not}
 use Rattle.typst_kinds.specs.Sets.{code_expr as code_kinds, math_expr as math_kinds}
-use Rattle.typst_kinds.specs.declared.kind.SyntaxKind.{SyntaxKind}
 use Rattle.typst_kinds.specs.declared.kind.SyntaxKind.TheVariants as kind
-use Rattle.typst_language.specs.declared.calls.AfterName.{AfterName}
 use Rattle.typst_language.specs.declared.calls.AfterName.TheVariants as after
-use Rattle.typst_language.specs.declared.calls.Block.{Block}
-use Rattle.typst_language.specs.declared.calls.ChainSet.{ChainSet}
-use Rattle.typst_code.specs.head.MarkupHead.{MarkupHead}
 use Rattle.typst_code.specs.head.MarkupHead.TheVariants as in_markup
-use Rattle.typst_code.specs.declared.heads.CodeHead.{CodeHead}
 use Rattle.typst_code.specs.declared.heads.CodeHead.TheVariants as in_code
-use Rattle.typst_code.specs.declared.heads.CodeTail.{CodeTail}
 use Rattle.typst_code.specs.declared.heads.CodeTail.TheVariants as tail
-use Rattle.typst_code.specs.math_heads.MathHead.{MathHead}
 use Rattle.typst_code.specs.math_heads.MathHead.TheVariants as in_math
-use Rattle.typst_code.specs.Arguments.{argument_list, listed_arguments, content_turn, begin_arguments, arguments, calls_directly}
-use Rattle.typst_code.specs.Bindings.{let_binding}
-use Rattle.typst_code.specs.Closures.{after_name, after_underscore, name_shape, underscore_shape, closure_shape, right_side, headed, named, placeholder}
 use Rattle.typst_code.specs.Delimited.{delimiter_sign, delimiter, delimited as math_delimited}
-use Rattle.typst_code.specs.Embedded.{embedded}
-use Rattle.typst_code.specs.Equations.{between_dollars, equation}
-use Rattle.typst_code.specs.Expressions.{code_head, code_by, unary_expr, code_primary, call_tail, tail_by, code_expr, binary_expr, not_in}
-use Rattle.typst_code.specs.Groups.{group}
-use Rattle.typst_code.specs.Imports.{module_import}
-use Rattle.typst_code.specs.Markup.{delimited, heading, item, term_item, reference, markup_by, content_block}
-use Rattle.typst_code.specs.MathExpressions.{math_head, math_text, root, math_by, math_primary, math_grown, math_expr}
-use Rattle.typst_code.specs.Params.{params}
-use Rattle.typst_code.specs.Parens.{as_group, readings, parens}
-use Rattle.typst_code.specs.Patterns.{destructuring}
-use Rattle.typst_code.specs.Sequences.{code_block}
-use Rattle.typst_code.specs.Starts.{begins_code}
-use Rattle.typst_code.specs.Statements.{field, set_rule, show_shape, show_rule, contextual, conditional_turn, conditional, while_loop, for_loop, module_include, jump, func_return}
-use Rattle.typst_language.specs.Expected.{seeing}
-use Rattle.typst_language.specs.Hand.{AtHand}
-use Rattle.typst_language.specs.Shape.{Shape}
-use Rattle.typst_language.specs.Steps.{peek, within, eat, convert_and_eat, eat_making, node, grow, nest, read_block}
-use Rattle.typst_language.specs.Syntax.{◌>>=◌}
-use Rattle.typst_language.specs.Syntax.Parser.{gives}
-use Rattle.typst_grammar.specs.Grammar.{block_production}
 use Rattle.typst_grammar.proofs.EatsFirst.{Begins, EatsFirst, every-among}
 use Rattle.typst_grammar.proofs.FineRuns.{Gives, gives-all}
 use Rattle.typst_grammar.proofs.Openers.{makes, keeps_bare, OnlyLooks, Bares}

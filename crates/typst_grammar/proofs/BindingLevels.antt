@@ -1,22 +1,7 @@
 -- What is read at each level binds, where what it calls does.
-use Rattle.std.proofs.Common.{◌≡◌, ℕ, Bool, true, false, refl, arith}
-use Rattle.typst_kinds.specs.declared.kind.SyntaxKind.{SyntaxKind}
+use Rattle.typst_grammar.proofs.Cited.{◌≡◌, ℕ, Bool, true, false, refl, arith, SyntaxKind, Place, CharClasses, Block, Call, CodeExpr, deeper, blocks_of, Meaning, blockless, run, Point, pending, encloses, node, Parser, content_block, code_block}
 use Rattle.typst_kinds.specs.declared.kind.SyntaxKind.TheVariants as kind
-use Rattle.typst_lines.specs.Place.{Place}
-use Rattle.typst_lines.specs.Classes.{CharClasses}
-use Rattle.typst_language.specs.declared.calls.Block.{Block}
 use Rattle.typst_language.specs.declared.calls.Block.TheVariants as block
-use Rattle.typst_language.specs.Calls.{Call}
-use Rattle.typst_language.specs.Calls.Call.{CodeExpr}
-use Rattle.typst_language.specs.Depth.{deeper}
-use Rattle.typst_language.specs.Knot.{blocks_of}
-use Rattle.typst_language.specs.Meaning.{Meaning, blockless, run}
-use Rattle.typst_language.specs.Point.{Point, pending}
-use Rattle.typst_language.specs.Shape.{encloses}
-use Rattle.typst_language.specs.Steps.{node}
-use Rattle.typst_language.specs.Syntax.{Parser}
-use Rattle.typst_code.specs.Markup.{content_block}
-use Rattle.typst_code.specs.Sequences.{code_block}
 use Rattle.typst_grammar.specs.Grammar.{block_production, rules, meaning, level_at}
 use Rattle.typst_grammar.proofs.Fine.{All, unbinary, tame_kind, tame-unbinary}
 use Rattle.typst_grammar.proofs.FineRuns.{AllBind, gives-all, PlainBy, plain-weaker, Still, binds-run}

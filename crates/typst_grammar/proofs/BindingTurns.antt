@@ -1,19 +1,8 @@
 -- A binary node that an operator makes binds.
-use Rattle.std.proofs.Common.{◌≡◌, ℕ, suc, Bool, true, false, ◌||◌, if◌then◌else◌, nat_lt, nat_le, List, [], ◌∷◌, ◌++◌, Option, Some, None, refl, subst, arith}
-use Rattle.std.proofs.lemmas.Bool.Decides.{nat_tests}
-use Rattle.typst_kinds.specs.Kinds.{same, is_error, is_trivia}
-use Rattle.typst_kinds.specs.Operators.{binary_of, binary_precedence}
-use Rattle.typst_kinds.specs.declared.kind.SyntaxKind.{SyntaxKind}
+use Rattle.typst_grammar.proofs.Cited.{◌≡◌, ℕ, suc, Bool, true, false, ◌||◌, if◌then◌else◌, nat_lt, nat_le, List, [], ◌∷◌, ◌++◌, Option, Some, None, refl, subst, arith, nat_tests, same, is_error, is_trivia, binary_of, binary_precedence, SyntaxKind, BinOp, Tree, forest, inner_of, CodeTail, calls_directly, binary_tail, code_tail, any_errors, has_errors, first_sign, operator_of, binds_by, left_binds, right_binds, right_least, node_binds, trees_forest}
 use Rattle.typst_kinds.specs.declared.kind.SyntaxKind.TheVariants as kind
-use Rattle.typst_kinds.specs.declared.operator.BinOp.{BinOp}
 use Rattle.typst_kinds.specs.declared.operator.BinOp.TheVariants as binary
-use Rattle.typst_tree.specs.Tree.{Tree, forest, inner_of}
-use Rattle.typst_tree.proofs.SpansAside.{trees_forest}
-use Rattle.typst_code.specs.declared.heads.CodeTail.{CodeTail}
 use Rattle.typst_code.specs.declared.heads.CodeTail.TheVariants as tail
-use Rattle.typst_code.specs.Arguments.{calls_directly}
-use Rattle.typst_code.specs.Expressions.{binary_tail, code_tail}
-use Rattle.typst_grammar.specs.Binding.{any_errors, has_errors, first_sign, operator_of, binds_by, left_binds, right_binds, right_least, node_binds}
 use Rattle.typst_grammar.proofs.Signs.{sign_of, NoSign}
 use Rattle.typst_grammar.proofs.Fine.{All, or-left, or-right, or-both, and-both}
 use Rattle.typst_grammar.proofs.Heads.{LastIs}

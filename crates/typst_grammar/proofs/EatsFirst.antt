@@ -1,14 +1,5 @@
 -- What takes the token at hand before all else.
-use Rattle.std.proofs.Common.{◌≡◌, ℕ, Bool, true, false, ◌&&◌, ◌||◌, List, [], ◌∷◌, refl, ap, subst, ◌∙◌}
-use Rattle.std.proofs.lemmas.Bool.{and_parts}
-use Rattle.typst_kinds.proofs.Sameness.{same-is}
-use Rattle.typst_kinds.specs.Kinds.{among, same}
-use Rattle.typst_kinds.specs.declared.kind.SyntaxKind.{SyntaxKind}
-use Rattle.typst_language.specs.Hand.{AtHand}
-use Rattle.typst_language.specs.Syntax.{Begin, Parser}
-use Rattle.typst_language.specs.Syntax.Begin.{at_token}
-use Rattle.typst_language.specs.Syntax.Op.{hand, column, takes}
-use Rattle.typst_language.specs.Syntax.Parser.{gives, does, next, pick, repeat, wraps, grows, nests, scoped, either, calls, block}
+use Rattle.typst_grammar.proofs.Cited.{◌≡◌, ℕ, Bool, true, false, ◌&&◌, ◌||◌, List, [], ◌∷◌, refl, ap, subst, ◌∙◌, and_parts, among, same, SyntaxKind, AtHand, Begin, Parser, hand, column, takes, gives, does, next, pick, repeat, wraps, grows, nests, scoped, either, calls, block, same-is, at_token}
 
 abbrev pub is_at_token : Begin → Bool
 is_at_token at_token = true

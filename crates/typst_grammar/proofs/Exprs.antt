@@ -1,25 +1,6 @@
 -- Expressions with operators bind.
-use Rattle.std.proofs.lemmas.Bool.Decides.{nat_tests}
-use Rattle.std.proofs.Common.{◌==◌, if◌then◌else◌, ◌≡◌, ℕ, suc, ◌≤◌, Bool, true, false, List, [], length, Option, refl, ◌⊎◌, inl, inr, subst, arith}
-use Rattle.typst_lines.specs.Place.{Place, moved}
-use Rattle.typst_tree.specs.Tree.{forest}
-use Rattle.typst_lines.specs.Classes.{CharClasses}
-use Rattle.typst_language.specs.Calls.Call.{CodeExpr}
-use Rattle.typst_language.specs.Depth.{anywhere, too_deep, deeper}
-use Rattle.typst_language.specs.Knot.{meaning_of}
-use Rattle.typst_language.specs.Syntax.{◌>>◌}
-use Rattle.typst_language.specs.Syntax.Parser.{gives}
-use Rattle.typst_code.specs.Expressions.{code_expr, code_primary, code_tail, code_tail_turn}
-use Rattle.typst_language.specs.Hand.{Hand, as_at_hand}
-use Rattle.typst_language.specs.Point.{Point, pending}
-use Rattle.typst_language.specs.Shape.{Shape}
-use Rattle.typst_language.specs.Steps.{grow, node, within}
-use Rattle.typst_language.specs.Meaning.{Outcome, Level, plain, deeper_by_one, joined, bound, growths, growing, hand_of, hand_asks_of, asked, run}
-use Rattle.typst_language.proofs.Ends.{hand-again}
-use Rattle.typst_language.proofs.Knot.{sane-at}
-use Rattle.typst_language.proofs.Places.{no-end}
+use Rattle.typst_grammar.proofs.Cited.{nat_tests, ◌==◌, if◌then◌else◌, ◌≡◌, ℕ, suc, ◌≤◌, Bool, true, false, List, [], length, Option, refl, ◌⊎◌, inl, inr, subst, arith, Place, moved, forest, CharClasses, CodeExpr, anywhere, too_deep, deeper, meaning_of, ◌>>◌, gives, code_expr, code_primary, code_tail, code_tail_turn, Hand, as_at_hand, Point, pending, Shape, grow, node, within, Outcome, Level, plain, deeper_by_one, joined, bound, growths, growing, hand_of, hand_asks_of, asked, run, hand-again, sane-at, no-end, any_errors}
 use Rattle.typst_grammar.specs.Grammar.{rules, level_at}
-use Rattle.typst_grammar.specs.Binding.{any_errors}
 use Rattle.typst_grammar.proofs.Fine.{All, is_ordinary}
 use Rattle.typst_grammar.proofs.FineRuns.{if_by, Gives, gives-run, PlainBy, Still, still-hand}
 use Rattle.typst_grammar.proofs.Heads.{standing-none}

@@ -1,21 +1,10 @@
 -- Trees that bind where they have no errors.
-use Rattle.std.proofs.Common.{◌≡◌, ℕ, zero, suc, Bool, true, false, ◌&&◌, ◌||◌, if◌then◌else◌, List, [], ◌∷◌, ◌++◌, take, drop, None, refl, ◌⊎◌, inl, inr, arith}
-use Rattle.std.proofs.lemmas.Bool.{and_parts}
-use Rattle.typst_kinds.specs.Kinds.{same, is_error}
+use Rattle.typst_grammar.proofs.Cited.{◌≡◌, ℕ, zero, suc, Bool, true, false, ◌&&◌, ◌||◌, if◌then◌else◌, List, [], ◌∷◌, ◌++◌, take, drop, None, refl, ◌⊎◌, inl, inr, arith, and_parts, same, is_error, SyntaxKind, hint_with, Tree, forest, text_of, leaf_of, inner_of, error_of, topped, with_kind, made_error, advised, all_advised, itself, of_kind, surprise, wanted, stays, turns_wrong, is_not, renamed, unparened, keeps, holds, lacks, warns, fails, on_both, on_if, any_errors, has_errors, first_sign, operator_of, node_binds, all_bind, binds, forest_trees}
 use Rattle.typst_kinds.specs.Names.{name_of}
-use Rattle.typst_kinds.specs.declared.kind.SyntaxKind.{SyntaxKind}
 use Rattle.typst_kinds.specs.declared.kind.SyntaxKind.TheVariants as kind
-use Rattle.typst_tree.specs.Diagnostic.{hint_with}
 use Rattle.typst_tree.specs.Messages.{made_unexpected, made_expected, unexpected_message}
-use Rattle.typst_tree.specs.Tree.{Tree, forest, text_of, leaf_of, inner_of, error_of, topped, with_kind, made_error, advised, all_advised}
-use Rattle.typst_tree.proofs.SpansAside.{forest_trees}
 use Rattle.typst_language.specs.Shape.{Making, made, hinted_last, hinted, NodeChange, is_delimited, renamed_last, parens_renamed, without_parens, on_first, first_changed, Shape, shaped}
-use Rattle.typst_language.specs.Shape.Making.{itself, of_kind, surprise, wanted}
-use Rattle.typst_language.specs.Shape.NodeChange.{stays, turns_wrong, is_not, renamed, unparened}
-use Rattle.typst_language.specs.Shape.Shape.{keeps, holds, lacks, warns, fails}
-use Rattle.typst_language.proofs.Within.{on_both, on_if}
 pub use Rattle.typst_grammar.proofs.Lists.{All, all-append, all-take, all-drop, all-map}
-use Rattle.typst_grammar.specs.Binding.{any_errors, has_errors, first_sign, operator_of, node_binds, all_bind, binds}
 
 -- ---- tests
 

@@ -1,37 +1,8 @@
 -- Parsers that give trees which bind where they have no errors: the words of the language.
-use Rattle.std.proofs.Common.{◌≡◌, ℕ, zero, suc, ◌+◌, ◌-◌, Bool, true, false, if◌then◌else◌, nat_lt, List, [], ◌∷◌, ◌++◌, length, take, drop, Option, Some, None, refl, ap, sym, subst, encode_utf8_all, ◌&&◌, inl, inr, arith}
-use Rattle.std.proofs.lemmas.Bool.{and_parts}
-use Rattle.std.specs.Prelude.{codes}
-use Rattle.typst_lines.specs.Classes.{CharClasses}
-use Rattle.typst_kinds.specs.Kinds.{same, is_error, is_trivia}
-use Rattle.typst_kinds.specs.declared.kind.SyntaxKind.{SyntaxKind}
+use Rattle.typst_grammar.proofs.Cited.{◌≡◌, ℕ, zero, suc, ◌+◌, ◌-◌, Bool, true, false, if◌then◌else◌, nat_lt, List, [], ◌∷◌, ◌++◌, length, take, drop, Option, Some, None, refl, ap, sym, subst, encode_utf8_all, ◌&&◌, inl, inr, arith, and_parts, CharClasses, same, is_error, is_trivia, SyntaxKind, SyntaxMode, Place, moved, hint_with, Tree, leaf_of, error_of, advised, all_advised, leaf, RawLine, trimmed, first_line, later_lines, is_blank, dedent, front, closing, line_leaves, first_leaves, block_of, block_leaves, inline_leaves, token_node, fault_node, is_raw, has_fields, Token, Block, Call, Mark, Reading, Point, Trivia, pending, Ahead, ahead, ahead_by, after_trivia, direct, hand_at, token_at, len_at, at_trivia, token_by, len_by, Shape, after_node, after_shape, Op, Begin, Parser, erred, takes, takes_so, flushes, complains, advises, marks, is_deepest, gives, does, next, pick, repeat, wraps, grows, nests, scoped, either, calls, block, Outcome, Meaning, Level, less, joined, answered, turns, as_last, bound, repeated, before, reshaped, grown, is_more, growths, growing, nestings, nesting, bounded, given_up, plain, entered, left, taken_node, node_by, reader_so, gave, hand_of, hand_asks_of, done, run, on_both, on_if, has_errors, operator_of, warned, is_whole, only_tag, hints, message, field_node, fields_node, name_node, named_node, names_of, access_node, Fault, codes}
 use Rattle.typst_kinds.specs.declared.kind.SyntaxKind.TheVariants as kind
-use Rattle.typst_kinds.specs.declared.mode.SyntaxMode.{SyntaxMode}
-use Rattle.typst_lines.specs.Place.{Place, moved}
-use Rattle.typst_tree.specs.Diagnostic.{hint_with}
-use Rattle.typst_tree.specs.Tree.{Tree, leaf_of, error_of, advised, all_advised}
 use Rattle.typst_language.specs.Raw.{raw_node, delimited_node, closed_node, delimited, two_delimiters, tag_leaves, is_pair, before_ticks, ticks}
-use Rattle.typst_language.specs.RawLines.{leaf, RawLine, trimmed, first_line, later_lines, is_blank, dedent, front, closing, line_leaves, first_leaves, block_of, block_leaves, inline_leaves}
-use Rattle.typst_language.specs.RawTag.{warned, is_whole, only_tag}
-use Rattle.typst_language.specs.Faults.{hints, message}
-use Rattle.typst_language.specs.Fields.{field_node, fields_node, name_node, named_node, names_of, access_node}
-use Rattle.typst_language.specs.Nodes.{token_node, fault_node, is_raw, has_fields}
-use Rattle.typst_tokens.specs.declared.token.Fault.{Fault}
-use Rattle.typst_tokens.specs.declared.token.Token.{Token}
-use Rattle.typst_language.specs.declared.calls.Block.{Block}
-use Rattle.typst_language.specs.Calls.{Call}
-use Rattle.typst_language.specs.declared.calls.Mark.{Mark}
 use Rattle.typst_language.specs.declared.calls.Mark.TheVariants as mark
-use Rattle.typst_language.specs.declared.reading.Reading.{Reading}
-use Rattle.typst_language.specs.Point.{Point, Trivia, pending}
-use Rattle.typst_language.specs.Hand.{Ahead, ahead, ahead_by, after_trivia, direct, hand_at, token_at, len_at, at_trivia, token_by, len_by}
-use Rattle.typst_language.specs.Shape.{Shape, after_node, after_shape}
-use Rattle.typst_language.specs.Syntax.{Op, Begin, Parser}
-use Rattle.typst_language.specs.Syntax.Op.{erred, takes, takes_so, flushes, complains, advises, marks, is_deepest}
-use Rattle.typst_language.specs.Syntax.Parser.{gives, does, next, pick, repeat, wraps, grows, nests, scoped, either, calls, block}
-use Rattle.typst_language.specs.Meaning.{Outcome, Meaning, Level, less, joined, answered, turns, as_last, bound, repeated, before, reshaped, grown, is_more, growths, growing, nestings, nesting, bounded, given_up, plain, entered, left, taken_node, node_by, reader_so, gave, hand_of, hand_asks_of, done, run}
-use Rattle.typst_language.proofs.Within.{on_both, on_if}
-use Rattle.typst_grammar.specs.Binding.{has_errors, operator_of}
 use Rattle.typst_grammar.proofs.Signs.{sign_of}
 use Rattle.typst_grammar.proofs.Fine.{All, kind-advised, Fine, Fines, fines-all, fines-append, fines-take, fines-hinted, fines-reshaped, all-append, fine-inner, fine-error, fine-leaf, fine-made, no-operator, shape_by, making_by, unbinary, tame_kind, shape-weaker, making-weaker}
 

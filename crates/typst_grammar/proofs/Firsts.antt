@@ -1,23 +1,5 @@
 -- What takes the token at hand first, at each level: blocks do.
-use Rattle.std.proofs.Common.{◌≡◌, ℕ, zero, suc, ◌+◌, ◌<◌, ◌≤◌, true, false, List, length, take, length-append, Option, None, refl, ap, sym, subst, arith}
-use Rattle.typst_kinds.specs.declared.mode.SyntaxMode.{SyntaxMode}
-use Rattle.typst_lines.specs.Place.{Place, moved}
-use Rattle.typst_tree.specs.Tree.{Tree}
-use Rattle.typst_lines.specs.Classes.{CharClasses}
-use Rattle.typst_language.specs.declared.calls.Block.{Block}
-use Rattle.typst_language.specs.declared.reading.Reading.{Reading}
-use Rattle.typst_language.specs.Calls.{Call}
-use Rattle.typst_language.specs.Hand.{Hand, as_at_hand, hand_at, ahead, ahead_by, len_at}
-use Rattle.typst_language.specs.Point.{Point, Trivia, forgot}
-use Rattle.typst_language.specs.Shape.{hinted}
-use Rattle.typst_language.specs.Sound.{Backs}
-use Rattle.typst_language.specs.Steps.{peek}
-use Rattle.typst_language.specs.Syntax.{Parser}
-use Rattle.typst_language.specs.Syntax.Parser.{next, block}
-use Rattle.typst_language.specs.Meaning.{Outcome, Level, less, joined, blockless, plain, closed, hand_of, hand_asks_of, flushed_state, run}
-use Rattle.typst_language.proofs.HintedNodes.{length-hinted}
-use Rattle.typst_language.proofs.Knot.{sane-meaning, sane-block}
-use Rattle.typst_language.proofs.Places.{length-less}
+use Rattle.typst_grammar.proofs.Cited.{◌≡◌, ℕ, zero, suc, ◌+◌, ◌<◌, ◌≤◌, true, false, List, length, take, length-append, Option, None, refl, ap, sym, subst, arith, SyntaxMode, Place, moved, Tree, CharClasses, Block, Reading, Call, Hand, as_at_hand, hand_at, ahead, ahead_by, len_at, Point, Trivia, forgot, hinted, Backs, peek, Parser, next, block, Outcome, Level, less, joined, blockless, plain, closed, hand_of, hand_asks_of, flushed_state, run, length-hinted, sane-meaning, sane-block, length-less}
 use Rattle.typst_grammar.specs.Grammar.{block_production, rules, meaning, level_at}
 use Rattle.typst_grammar.proofs.EatsFirst.{EatsFirst}
 use Rattle.typst_grammar.proofs.Fine.{All, all-take}

@@ -1,21 +1,6 @@
 -- Expressions of code bind: what grows turn by turn.
-use Rattle.std.proofs.Common.{◌≡◌, ℕ, zero, suc, ◌+◌, ◌≤◌, ◌<◌, Bool, true, false, ◌&&◌, ◌||◌, if◌then◌else◌, nat_lt, List, [], ◌∷◌, ◌++◌, length, take, drop, nat_le, length-append, length-take, append_assoc, Option, Some, None, refl, ap, sym, ◌∙◌, ◌⊎◌, inl, inr, subst, arith}
-use Rattle.std.proofs.lemmas.Bool.Decides.{nat_tests}
-use Rattle.typst_kinds.specs.Kinds.{is_error, is_trivia}
-use Rattle.typst_kinds.specs.Operators.{binary_precedence}
-use Rattle.typst_kinds.specs.declared.operator.BinOp.{BinOp}
-use Rattle.typst_kinds.specs.declared.kind.SyntaxKind.{SyntaxKind}
+use Rattle.typst_grammar.proofs.Cited.{◌≡◌, ℕ, zero, suc, ◌+◌, ◌≤◌, ◌<◌, Bool, true, false, ◌&&◌, ◌||◌, if◌then◌else◌, nat_lt, List, [], ◌∷◌, ◌++◌, length, take, drop, nat_le, length-append, length-take, append_assoc, Option, Some, None, refl, ap, sym, ◌∙◌, ◌⊎◌, inl, inr, subst, arith, nat_tests, is_error, is_trivia, binary_precedence, BinOp, SyntaxKind, Place, moved, Tree, forest, leaf_of, inner_of, CharClasses, hand_at, Point, Shape, becomes, hinted, Outcome, Meaning, less, joined, answered, bound, inside, reshaped, grown, is_more, growths, length-hinted, moved-sum, less-none, length-less, any_errors, has_errors, first_sign, operator_of, binds_by, right_least, node_binds}
 use Rattle.typst_kinds.specs.declared.kind.SyntaxKind.TheVariants as kind
-use Rattle.typst_lines.specs.Place.{Place, moved}
-use Rattle.typst_tree.specs.Tree.{Tree, forest, leaf_of, inner_of}
-use Rattle.typst_lines.specs.Classes.{CharClasses}
-use Rattle.typst_language.specs.Hand.{hand_at}
-use Rattle.typst_language.specs.Point.{Point}
-use Rattle.typst_language.specs.Shape.{Shape, becomes, hinted}
-use Rattle.typst_language.specs.Meaning.{Outcome, Meaning, less, joined, answered, bound, inside, reshaped, grown, is_more, growths}
-use Rattle.typst_language.proofs.HintedNodes.{length-hinted}
-use Rattle.typst_language.proofs.Places.{moved-sum, less-none, length-less}
-use Rattle.typst_grammar.specs.Binding.{any_errors, has_errors, first_sign, operator_of, binds_by, right_least, node_binds}
 use Rattle.typst_grammar.proofs.Signs.{sign_of, NoSign}
 use Rattle.typst_grammar.proofs.Fine.{All, or-left, or-right, all-append, all-drop, all-map, fines-after, fine-binary, leaf-operator, no-operator, is-unbinary, tame-unbinary, tame_kind}
 use Rattle.typst_grammar.proofs.FineRuns.{Binds, Still, binds-joined, binds-reshaped}

@@ -1,23 +1,7 @@
 -- Parsers that read a block only where a token is at hand, and note only what they are allowed to: all that calls and blocks read.
-use Rattle.std.proofs.Common.{◌≡◌, ℕ, Bool, true, false, refl}
-use Rattle.typst_lines.specs.Classes.{CharClasses}
-use Rattle.typst_language.specs.declared.calls.Block.{Block}
+use Rattle.typst_grammar.proofs.Cited.{◌≡◌, ℕ, Bool, true, false, refl, CharClasses, Block, Mark, SyntaxKind, Call, Answer, MarkupExpr, CodeExpr, MathExpr, Pattern, too_deep, deeper, Shape, close_if, peek, grow, node, Parser, ◌>>◌, code_primary, code_tail_turn, code_expr, content_block, markup_expr, math_expr, pattern, code_block, production, block_production, whole}
 use Rattle.typst_language.specs.declared.calls.Block.TheVariants as block
-use Rattle.typst_language.specs.declared.calls.Mark.{Mark}
 use Rattle.typst_language.specs.declared.calls.Mark.TheVariants as mark
-use Rattle.typst_kinds.specs.declared.kind.SyntaxKind.{SyntaxKind}
-use Rattle.typst_language.specs.Calls.{Call, Answer}
-use Rattle.typst_language.specs.Calls.Call.{MarkupExpr, CodeExpr, MathExpr, Pattern}
-use Rattle.typst_language.specs.Depth.{too_deep, deeper}
-use Rattle.typst_language.specs.Shape.{Shape}
-use Rattle.typst_language.specs.Steps.{close_if, peek, grow, node}
-use Rattle.typst_language.specs.Syntax.{Parser, ◌>>◌}
-use Rattle.typst_code.specs.Expressions.{code_primary, code_tail_turn, code_expr}
-use Rattle.typst_code.specs.Markup.{content_block, markup_expr}
-use Rattle.typst_code.specs.MathExpressions.{math_expr}
-use Rattle.typst_code.specs.Patterns.{pattern}
-use Rattle.typst_code.specs.Sequences.{code_block}
-use Rattle.typst_grammar.specs.Grammar.{production, block_production, whole}
 pub use Rattle.typst_grammar.proofs.Proper.{sees, op_notes, Guarded}
 use Rattle.typst_grammar.proofs.Proper.{Scope, Proper, proper-guarded, proper-close, proper-flush, proper-deep, proper-deeper}
 use Rattle.typst_grammar.proofs.PlainParts.{inside_content, proper-inside-content, proper-run, proper-markup-expr, proper-pattern}

@@ -1,33 +1,7 @@
 -- What stands to the left of an operator: no operator stands there, and no binary node.
-use Rattle.std.proofs.Common.{◌≡◌, ℕ, zero, suc, ◌<◌, Bool, true, false, not, ◌&&◌, ◌||◌, if◌then◌else◌, nat_lt, List, [], ◌∷◌, ◌++◌, length, take, drop, Option, Some, None, refl, ap, sym, ◌⊎◌, subst, arith, encode_utf8_all}
-use Rattle.std.proofs.lemmas.Bool.{and_parts}
-use Rattle.typst_lines.specs.Classes.{CharClasses}
-use Rattle.typst_kinds.specs.Kinds.{same, is_error}
-use Rattle.typst_kinds.specs.declared.kind.SyntaxKind.{SyntaxKind}
+use Rattle.typst_grammar.proofs.Cited.{◌≡◌, ℕ, zero, suc, ◌<◌, Bool, true, false, not, ◌&&◌, ◌||◌, if◌then◌else◌, nat_lt, List, [], ◌∷◌, ◌++◌, length, take, drop, Option, Some, None, refl, ap, sym, ◌⊎◌, subst, arith, encode_utf8_all, and_parts, CharClasses, same, is_error, SyntaxKind, Place, moved, hint_with, Tree, leaf_of, error_of, advised, token_node, plain_node, fault_node, is_raw, has_fields, Token, Point, Trivia, Reading, hand_at, Making, itself, takes, gives, does, next, peek, eat_making, eat, is_end, Outcome, Level, plain, standing, joined, taken_node, hand_of, run, no-end, on_both, operator_of, hints, message, tag, warned, is_whole, only_tag, access_node, Fault}
 use Rattle.typst_kinds.specs.declared.kind.SyntaxKind.TheVariants as kind
-use Rattle.typst_lines.specs.Place.{Place, moved}
-use Rattle.typst_tree.specs.Diagnostic.{hint_with}
-use Rattle.typst_tree.specs.Tree.{Tree, leaf_of, error_of, advised}
-use Rattle.typst_language.specs.Faults.{hints, message}
 use Rattle.typst_language.specs.Raw.{raw_node, delimited_node, closed_node, block_node, inline_node, delimited, two_delimiters, is_pair, before_ticks, ticks}
-use Rattle.typst_language.specs.RawTag.{tag, warned, is_whole, only_tag}
-use Rattle.typst_language.specs.Fields.{access_node}
-use Rattle.typst_language.specs.Nodes.{token_node, plain_node, fault_node, is_raw, has_fields}
-use Rattle.typst_tokens.specs.declared.token.Token.{Token}
-use Rattle.typst_tokens.specs.declared.token.Fault.{Fault}
-use Rattle.typst_language.specs.Point.{Point, Trivia}
-use Rattle.typst_language.specs.declared.reading.Reading.{Reading}
-use Rattle.typst_language.specs.Hand.{hand_at}
-use Rattle.typst_language.specs.Shape.{Making}
-use Rattle.typst_language.specs.Shape.Making.{itself}
-use Rattle.typst_language.specs.Syntax.Op.{takes}
-use Rattle.typst_language.specs.Syntax.Parser.{gives, does, next}
-use Rattle.typst_language.specs.Steps.{peek, eat_making, eat}
-use Rattle.typst_language.specs.Depth.{is_end}
-use Rattle.typst_language.specs.Meaning.{Outcome, Level, plain, standing, joined, taken_node, hand_of, run}
-use Rattle.typst_language.proofs.Places.{no-end}
-use Rattle.typst_language.proofs.Within.{on_both}
-use Rattle.typst_grammar.specs.Binding.{operator_of}
 use Rattle.typst_grammar.proofs.Signs.{sign_of}
 use Rattle.typst_grammar.proofs.Fine.{All, Steady, kind-advised, all-drop, no-operator, or-left, or-right, unbinary}
 pub use Rattle.typst_grammar.proofs.Parts.{standing-nil as standing-none}

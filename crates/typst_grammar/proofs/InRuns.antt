@@ -1,17 +1,9 @@
 -- The laws of what is read in a text's own run, and of what is read in a block, where no other block may be read but one level deeper.
-use Rattle.std.proofs.Common.{ℕ, false, refl}
-use Rattle.typst_lines.specs.Classes.{CharClasses}
-use Rattle.typst_language.specs.Meaning.{blockless, plain, run}
-use Rattle.typst_language.specs.Sound.{Alike, Lawful}
-use Rattle.typst_language.specs.Steps.{peek}
-use Rattle.typst_language.specs.Syntax.{Parser, ◌>>◌}
+use Rattle.typst_grammar.proofs.Cited.{ℕ, false, refl, CharClasses, blockless, plain, run, Alike, Lawful, peek, Parser, ◌>>◌, Sane, sane-run, sane-plain, sane-meaning, alike-meaning, lawful-parser, RunKind, run_level}
 use Rattle.typst_language.proofs.Alike.{alike-run}
-use Rattle.typst_language.proofs.Knot.{Sane, sane-run, sane-plain, sane-meaning, alike-meaning, lawful-parser}
-use Rattle.typst_grammar.specs.declared.part.RunKind.{RunKind}
 use Rattle.typst_grammar.specs.declared.part.RunKind.TheVariants as of
 use Rattle.typst_grammar.specs.Grammar.{block_production, rules, meaning}
 use Rattle.typst_grammar.specs.Laws.{BlockLaws}
-use Rattle.typst_grammar.specs.Pieces.{run_level}
 
 module _ (k : CharClasses) where
   sane-apart : {A : Type 0} (levels : ℕ) (p : Parser A) → Sane (run (blockless k levels (meaning k levels)) p)

@@ -1,19 +1,6 @@
 -- All that is read binds.
-use Rattle.std.proofs.Common.{ℕ, zero, suc, true, false, refl}
+use Rattle.typst_grammar.proofs.Cited.{ℕ, zero, suc, true, false, refl, CharClasses, Call, MarkupExpr, CodeExpr, MathExpr, Pattern, meaning_of, start_point, run, markup_reading, markup_expr, pattern, code_expr, math_expr, code_reading, math_reading, BindingLaw, CodeBindingLaw, MathBindingLaw, production, level_at, max_depth, start_of, whole, whole_code, whole_math, parsed, parsed_code, parsed_math, tree, tree_code, tree_math}
 use Rattle.typst_kinds.specs.declared.kind.SyntaxKind.TheVariants as kind
-use Rattle.typst_lines.specs.Classes.{CharClasses}
-use Rattle.typst_language.specs.Calls.{Call}
-use Rattle.typst_language.specs.Calls.Call.{MarkupExpr, CodeExpr, MathExpr, Pattern}
-use Rattle.typst_language.specs.Knot.{meaning_of}
-use Rattle.typst_language.specs.Meaning.{start_point, run}
-use Rattle.typst_code.specs.Markup.{markup_reading, markup_expr}
-use Rattle.typst_code.specs.Patterns.{pattern}
-use Rattle.typst_code.specs.Expressions.{code_expr}
-use Rattle.typst_code.specs.MathExpressions.{math_expr}
-use Rattle.typst_code.specs.Sequences.{code_reading}
-use Rattle.typst_code.specs.Equations.{math_reading}
-use Rattle.typst_grammar.specs.Binding.{BindingLaw, CodeBindingLaw, MathBindingLaw}
-use Rattle.typst_grammar.specs.Grammar.{production, level_at, max_depth, start_of, whole, whole_code, whole_math, parsed, parsed_code, parsed_math, tree, tree_code, tree_math}
 use Rattle.typst_grammar.proofs.Fine.{fine-over, is_ordinary}
 use Rattle.typst_grammar.proofs.BindingLevels.{CallsBind, DeeperOperands, level-binds}
 use Rattle.typst_grammar.proofs.Exprs.{ordinary-expr, expr-binds, deeper-binds, limit-binds}

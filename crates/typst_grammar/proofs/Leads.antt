@@ -1,25 +1,7 @@
 -- What takes the token at hand first: the trivia before it come first and stay there, and something is taken.
-use Rattle.std.proofs.Common.{◌≡◌, ℕ, zero, suc, ◌+◌, ◌-◌, ◌<◌, ◌≤◌, Bool, true, false, ◌&&◌, if◌then◌else◌, nat_lt, List, [], ◌∷◌, ◌++◌, length, take, length-append, length-take, length-drop, Option, Some, None, refl, ap, sym, ◌⊎◌, inl, inr, subst, arith}
-use Rattle.typst_kinds.specs.Kinds.{is_error}
-use Rattle.typst_lines.specs.Place.{Place, moved}
-use Rattle.typst_tree.specs.Tree.{Tree}
-use Rattle.typst_language.specs.declared.calls.Block.{Block}
-use Rattle.typst_language.specs.Calls.{Call}
-use Rattle.typst_language.specs.Hand.{Hand, as_at_hand}
-use Rattle.typst_language.specs.Point.{Point, pending}
-use Rattle.typst_language.specs.Shape.{Making, hinted_last, hinted, Shape, shaped, after_node}
-use Rattle.typst_language.specs.Sound.{Tidy, Backs}
-use Rattle.typst_language.specs.Syntax.{Begin, Parser}
+use Rattle.typst_grammar.proofs.Cited.{◌≡◌, ℕ, zero, suc, ◌+◌, ◌-◌, ◌<◌, ◌≤◌, Bool, true, false, ◌&&◌, if◌then◌else◌, nat_lt, List, [], ◌∷◌, ◌++◌, length, take, length-append, length-take, length-drop, Option, Some, None, refl, ap, sym, ◌⊎◌, inl, inr, subst, arith, is_error, Place, moved, Tree, Block, Call, Hand, as_at_hand, Point, pending, Making, hinted_last, hinted, Shape, shaped, after_node, Tidy, Backs, Begin, Parser, hand, column, takes, gives, does, next, pick, repeat, wraps, grows, nests, scoped, either, calls, block, Outcome, Meaning, Level, less, joined, answered, turns, as_last, before, bound, repeated, entered, inside, reshaped, wrapped, grown, is_more, growths, growing, nestings, nesting, given_up, hand_of, asked, run, hand-again, length-hinted, length-less, on_both, on_if, and_parts}
 use Rattle.typst_language.specs.Syntax.Begin.{at_token, at_trivia}
-use Rattle.typst_language.specs.Syntax.Op.{hand, column, takes}
-use Rattle.typst_language.specs.Syntax.Parser.{gives, does, next, pick, repeat, wraps, grows, nests, scoped, either, calls, block}
-use Rattle.typst_language.specs.Meaning.{Outcome, Meaning, Level, less, joined, answered, turns, as_last, before, bound, repeated, entered, inside, reshaped, wrapped, grown, is_more, growths, growing, nestings, nesting, given_up, hand_of, asked, run}
 use Rattle.typst_language.proofs.Backs.{backs-run, backs-turns, shape-counts, tidy-nestings}
-use Rattle.typst_language.proofs.Ends.{hand-again}
-use Rattle.typst_language.proofs.HintedNodes.{length-hinted}
-use Rattle.typst_language.proofs.Places.{length-less}
-use Rattle.typst_language.proofs.Within.{on_both, on_if}
-use Rattle.std.proofs.lemmas.Bool.{and_parts}
 use Rattle.typst_grammar.proofs.EatsFirst.{Begins, EatsFirst, is_at_token}
 use Rattle.typst_grammar.proofs.Fine.{All, Steady}
 use Rattle.typst_grammar.proofs.FineRuns.{Still, still-hand}

@@ -1,6 +1,5 @@
 -- What holds of each of several trees.
-use Rattle.std.proofs.Common.{ℕ, zero, suc, List, [], ◌∷◌, ◌++◌, take, drop}
-use Rattle.typst_tree.specs.Tree.{Tree}
+use Rattle.typst_grammar.proofs.Cited.{ℕ, zero, suc, List, [], ◌∷◌, ◌++◌, take, drop, Tree}
 
 abbrev pub All : (Tree → Type 0) → List Tree → Type 0
 All P [] = Unit {0}

@@ -1,18 +1,5 @@
 -- After an error that stands before a node, nothing is said of it.
-use Rattle.std.proofs.Common.{◌≡◌, ℕ, zero, suc, ◌+◌, true, false, ◌&&◌, ◌||◌, nat_lt, List, [], ◌∷◌, ◌++◌, take, Option, Some, None, ap, ◌∙◌, ◌⊎◌, inl, inr, arith}
-use Rattle.std.proofs.lemmas.Bool.{and_parts}
-use Rattle.typst_kinds.specs.Kinds.{is_error}
-use Rattle.typst_lines.specs.Place.{Place, moved}
-use Rattle.typst_tree.specs.Tree.{Tree, forest, all_advised}
-use Rattle.typst_lines.specs.Classes.{CharClasses}
-use Rattle.typst_language.specs.Point.{Point}
-use Rattle.typst_language.specs.Shape.{Shape, hinted_last, hinted}
-use Rattle.typst_language.specs.Shape.Shape.{holds}
-use Rattle.typst_language.specs.Sound.{Backs}
-use Rattle.typst_language.specs.Meaning.{Outcome, Meaning, joined, answered, grown, is_more, growths}
-use Rattle.typst_language.proofs.Places.{less-none}
-use Rattle.typst_language.proofs.Within.{on_both, on_if}
-use Rattle.typst_grammar.specs.Binding.{any_errors}
+use Rattle.typst_grammar.proofs.Cited.{◌≡◌, ℕ, zero, suc, ◌+◌, true, false, ◌&&◌, ◌||◌, nat_lt, List, [], ◌∷◌, ◌++◌, take, Option, Some, None, ap, ◌∙◌, ◌⊎◌, inl, inr, arith, and_parts, is_error, Place, moved, Tree, forest, all_advised, CharClasses, Point, Shape, hinted_last, hinted, holds, Backs, Outcome, Meaning, joined, answered, grown, is_more, growths, less-none, on_both, on_if, any_errors}
 use Rattle.typst_grammar.proofs.Fine.{kind-advised, Fines, or-left, or-right}
 use Rattle.typst_grammar.proofs.FineRuns.{AllBind, Binds, binds-joined, still-shaped}
 use Rattle.typst_grammar.proofs.Grown.{Operand}

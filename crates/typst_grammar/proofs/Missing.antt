@@ -1,22 +1,6 @@
 -- What is said where something is expected.
-use Rattle.std.proofs.Common.{◌≡◌, ℕ, Bool, true, false, if◌then◌else◌, List, [], ◌∷◌, ◌++◌, refl, ◌⊎◌, inl, inr, arith, codes}
-use Rattle.typst_lines.specs.Classes.{CharClasses}
-use Rattle.typst_kinds.specs.Kinds.{is_error}
-use Rattle.typst_kinds.specs.declared.kind.SyntaxKind.{SyntaxKind}
+use Rattle.typst_grammar.proofs.Cited.{◌≡◌, ℕ, Bool, true, false, if◌then◌else◌, List, [], ◌∷◌, ◌++◌, refl, ◌⊎◌, inl, inr, arith, codes, CharClasses, is_error, SyntaxKind, Place, Tree, error_of, token_node, Token, Hand, AtHand, as_at_hand, Point, itself, is_end, eat_making, expected, complains, does, Outcome, Level, plain, joined, hand_of, hand_asks_of, asked, run, hand-again, hand-takes}
 use Rattle.typst_kinds.specs.declared.kind.SyntaxKind.TheVariants as kind
-use Rattle.typst_lines.specs.Place.{Place}
-use Rattle.typst_tree.specs.Tree.{Tree, error_of}
-use Rattle.typst_language.specs.Nodes.{token_node}
-use Rattle.typst_tokens.specs.declared.token.Token.{Token}
-use Rattle.typst_language.specs.Hand.{Hand, AtHand, as_at_hand}
-use Rattle.typst_language.specs.Point.{Point}
-use Rattle.typst_language.specs.Shape.Making.{itself}
-use Rattle.typst_language.specs.Depth.{is_end}
-use Rattle.typst_language.specs.Steps.{eat_making, expected}
-use Rattle.typst_language.specs.Syntax.Op.{complains}
-use Rattle.typst_language.specs.Syntax.Parser.{does}
-use Rattle.typst_language.specs.Meaning.{Outcome, Level, plain, joined, hand_of, hand_asks_of, asked, run}
-use Rattle.typst_language.proofs.Ends.{hand-again, hand-takes}
 use Rattle.typst_grammar.proofs.Heads.{fault-error, hand-kind, takes-making, standing-none}
 use Rattle.typst_grammar.proofs.Operands.{Exact, exact-plain, exact-joined, making-empties}
 

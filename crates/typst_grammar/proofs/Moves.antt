@@ -1,19 +1,5 @@
 -- Parsers that take something where something is left: the words of the language.
-use Rattle.std.proofs.Common.{◌≡◌, ℕ, ◌+◌, ◌<◌, Bool, true, false, List, ap, arith}
-use Rattle.typst_kinds.specs.declared.kind.SyntaxKind.{SyntaxKind}
-use Rattle.typst_lines.specs.Place.{Place, moved}
-use Rattle.typst_language.specs.declared.reading.Reading.{Reading}
-use Rattle.typst_language.specs.Point.{Point}
-use Rattle.typst_language.specs.Hand.{Hand, AtHand}
-use Rattle.typst_language.specs.Shape.{Making, Shape}
-use Rattle.typst_language.specs.Shape.Making.{itself, surprise}
-use Rattle.typst_language.specs.Syntax.{Begin, Parser}
-use Rattle.typst_language.specs.Syntax.Op.{hand, takes}
-use Rattle.typst_language.specs.Syntax.Parser.{does, next, pick, wraps, scoped}
-use Rattle.typst_language.specs.Steps.{eat, eat_making, unexpected, within, node}
-use Rattle.typst_language.specs.Meaning.{Level, entered, hand_of, asked, run}
-use Rattle.typst_language.proofs.Ends.{hand-again}
-use Rattle.typst_language.proofs.Within.{on_if}
+use Rattle.typst_grammar.proofs.Cited.{◌≡◌, ℕ, ◌+◌, ◌<◌, Bool, true, false, List, ap, arith, SyntaxKind, Place, moved, Reading, Point, Hand, AtHand, Making, Shape, itself, surprise, Begin, Parser, hand, takes, does, next, pick, wraps, scoped, eat, eat_making, unexpected, within, node, Level, entered, hand_of, asked, run, hand-again, on_if}
 
 -- where something is left, trivia or a token, something is taken
 abbrev pub Moves : {A : Type 0} → Level → Parser A → Type 0

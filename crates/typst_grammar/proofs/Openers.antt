@@ -1,21 +1,5 @@
 -- What an expression begins with: some nodes, of which none is an operator or has one.
-use Rattle.std.proofs.Common.{◌≡◌, ℕ, ◌-◌, ◌<◌, Bool, true, false, ◌&&◌, ◌||◌, List, [], ◌∷◌, length, take, length-append, length-take, length-drop, refl, ap, sym, ◌⊎◌, inl, inr, subst, arith}
-use Rattle.typst_lines.specs.Place.{Place, moved}
-use Rattle.typst_tree.specs.Tree.{Tree}
-use Rattle.typst_language.specs.declared.calls.Block.{Block}
-use Rattle.typst_language.specs.Calls.{Call}
-use Rattle.typst_language.specs.Hand.{Hand, AtHand, as_at_hand}
-use Rattle.typst_language.specs.Point.{Point, pending}
-use Rattle.typst_language.specs.Shape.{Shape, shaped}
-use Rattle.typst_language.specs.Shape.Making.{itself}
-use Rattle.typst_language.specs.Shape.NodeChange.{stays, is_not}
-use Rattle.typst_language.specs.Shape.Shape.{keeps, holds, lacks}
-use Rattle.typst_language.specs.Sound.{Backs}
-use Rattle.typst_language.specs.Syntax.{Parser}
-use Rattle.typst_language.specs.Syntax.Op.{hand, takes}
-use Rattle.typst_language.specs.Syntax.Parser.{gives, does, next, pick, wraps, nests, scoped, either, block}
-use Rattle.typst_language.specs.Meaning.{Outcome, Level, plain, less, joined, reshaped, wrapped, nesting, entered, given_up, taken_node, hand_of, hand_asks_of, asked, run}
-use Rattle.typst_language.proofs.Within.{on_both}
+use Rattle.typst_grammar.proofs.Cited.{◌≡◌, ℕ, ◌-◌, ◌<◌, Bool, true, false, ◌&&◌, ◌||◌, List, [], ◌∷◌, length, take, length-append, length-take, length-drop, refl, ap, sym, ◌⊎◌, inl, inr, subst, arith, Place, moved, Tree, Block, Call, Hand, AtHand, as_at_hand, Point, pending, Shape, shaped, itself, stays, is_not, keeps, holds, lacks, Backs, Parser, hand, takes, gives, does, next, pick, wraps, nests, scoped, either, block, Outcome, Level, plain, less, joined, reshaped, wrapped, nesting, entered, given_up, taken_node, hand_of, hand_asks_of, asked, run, on_both}
 use Rattle.typst_grammar.proofs.EatsFirst.{EatsFirst, is_at_token}
 use Rattle.typst_grammar.proofs.Fine.{All, all-append, all-take, all-drop, all-hinted}
 use Rattle.typst_grammar.proofs.FineRuns.{Gives, gives-run, Still, still-hand}

@@ -1,26 +1,8 @@
 -- An operator and what is read after it.
-use Rattle.std.proofs.Common.{◌≡◌, ℕ, ◌<◌, ◌≤◌, Bool, true, false, if◌then◌else◌, nat_lt, List, [], ◌∷◌, ◌++◌, length, length-append, length-take, append_assoc, append-nil, refl, ap, sym, ◌∙◌, inl, inr, arith}
-use Rattle.std.proofs.lemmas.Str.{length-le-encodes}
-use borrow.Author.Tests.{lt-ltb}
-use Rattle.typst_kinds.specs.Kinds.{is_error}
-use Rattle.typst_kinds.specs.declared.kind.SyntaxKind.{SyntaxKind}
+use Rattle.typst_grammar.proofs.Cited.{◌≡◌, ℕ, ◌<◌, ◌≤◌, Bool, true, false, if◌then◌else◌, nat_lt, List, [], ◌∷◌, ◌++◌, length, length-append, length-take, append_assoc, append-nil, refl, ap, sym, ◌∙◌, inl, inr, arith, length-le-encodes, is_error, SyntaxKind, Place, moved, Tree, text_of, all_advised, token_node, Ask, Hand, hand_at, len_at, text_ahead, Point, hinted_error, hinted, count_empty, after_node, itself, eat_making, eat, Outcome, Level, plain, joined, hand_of, renewed, taken_node, run, hand-again, hinted-append, less-none, no-end, on_both, lt-ltb}
 use Rattle.typst_kinds.specs.declared.kind.SyntaxKind.TheVariants as kind
-use Rattle.typst_lines.specs.Place.{Place, moved}
-use Rattle.typst_tree.specs.Tree.{Tree, text_of, all_advised}
-use Rattle.typst_language.specs.Nodes.{token_node}
-use Rattle.typst_language.specs.Ask.{Ask}
-use Rattle.typst_language.specs.Hand.{Hand, hand_at, len_at, text_ahead}
-use Rattle.typst_language.specs.Point.{Point}
-use Rattle.typst_language.specs.Shape.{hinted_error, hinted, count_empty, after_node}
-use Rattle.typst_language.specs.Shape.Making.{itself}
-use Rattle.typst_language.specs.Steps.{eat_making, eat}
-use Rattle.typst_language.specs.Meaning.{Outcome, Level, plain, joined, hand_of, renewed, taken_node, run}
-use Rattle.typst_language.proofs.Ends.{hand-again}
-use Rattle.typst_language.proofs.HintedNodes.{hinted-append}
 use Rattle.typst_language.proofs.Leaves.{text-made}
-use Rattle.typst_language.proofs.Places.{less-none, no-end}
 use Rattle.typst_language.proofs.TokenTexts.{text-token}
-use Rattle.typst_language.proofs.Within.{on_both}
 use Rattle.typst_grammar.proofs.Fine.{kind-advised}
 use Rattle.typst_grammar.proofs.Heads.{Leafy, takes-making, back-eat}
 

@@ -1,27 +1,8 @@
 -- What begins with a paren: a group or what it is read as, and the sign that may come after it.
-use Rattle.std.proofs.Common.{length-append, ◌≡◌, ◌&&◌, Bool, true, false, if◌then◌else◌, List, refl, ap, ◌∙◌, ◌⊎◌, inl, inr, arith, rules, codes, ℕ}
-use Rattle.typst_kinds.specs.Kinds.{same}
-use Rattle.typst_kinds.specs.declared.kind.SyntaxKind.{SyntaxKind}
+use Rattle.typst_grammar.proofs.Cited.{length-append, ◌≡◌, ◌&&◌, Bool, true, false, if◌then◌else◌, List, refl, ap, ◌∙◌, ◌⊎◌, inl, inr, arith, rules, codes, ℕ, same, SyntaxKind, Place, moved, AfterName, closure_shape, expects, group, group_shape, Hand, AtHand, as_at_hand, params, expression_if, Found, destructuring, parts_kind, Point, pending, encloses, eat, eat_making, expect, expected, node, within, Parser, ◌>>=◌, gives, Outcome, Level, plain, joined, hand_of, hand_asks_of, asked, run, hand-again, on_both}
 use Rattle.typst_kinds.specs.declared.kind.SyntaxKind.TheVariants as kind
-use Rattle.typst_lines.specs.Place.{Place, moved}
-use Rattle.typst_language.specs.declared.calls.AfterName.{AfterName}
 use Rattle.typst_language.specs.declared.calls.AfterName.TheVariants as after
-use Rattle.typst_code.specs.Closures.{closure_shape}
-use Rattle.typst_language.specs.Expected.{expects}
-use Rattle.typst_code.specs.Groups.{group, group_shape}
-use Rattle.typst_language.specs.Hand.{Hand, AtHand, as_at_hand}
-use Rattle.typst_code.specs.Params.{params}
 use Rattle.typst_code.specs.Parens.{after_group, as_group, after_if, readings, sign}
-use Rattle.typst_code.specs.Parts.{expression_if}
-use Rattle.typst_code.specs.Patterns.{Found, destructuring, parts_kind}
-use Rattle.typst_language.specs.Point.{Point, pending}
-use Rattle.typst_language.specs.Shape.{encloses}
-use Rattle.typst_language.specs.Steps.{eat, eat_making, expect, expected, node, within}
-use Rattle.typst_language.specs.Syntax.{Parser, ◌>>=◌}
-use Rattle.typst_language.specs.Syntax.Parser.{gives}
-use Rattle.typst_language.specs.Meaning.{Outcome, Level, plain, joined, hand_of, hand_asks_of, asked, run}
-use Rattle.typst_language.proofs.Ends.{hand-again}
-use Rattle.typst_language.proofs.Within.{on_both}
 use Rattle.typst_grammar.proofs.Fine.{All, all-append}
 use Rattle.typst_grammar.proofs.FineRuns.{Gives, Still, still-hand}
 use Rattle.typst_grammar.proofs.Heads.{bare-error, is_quiet, Silent, silent-joined, silent-plain, standing-none, standing-silent}

@@ -1,20 +1,5 @@
 -- A part of a text that was read by itself.
-use Rattle.std.proofs.Common.{◌≡◌, ℕ, List, [], ◌++◌, ap, ◌∙◌, arith}
-use Rattle.typst_tree.specs.Tree.{Tree}
-use Rattle.typst_lines.specs.Place.{Place}
-use Rattle.typst_lines.specs.Classes.{CharClasses}
-use Rattle.typst_language.specs.declared.reading.Reading.{Reading}
-use Rattle.typst_language.specs.Meaning.{Meaning, Outcome, apart, blockless, standing, start_point, run}
-use Rattle.typst_language.specs.Point.{Point}
-use Rattle.typst_language.specs.Shape.{hinted}
-use Rattle.typst_language.specs.Syntax.{Parser}
-use Rattle.typst_language.proofs.Blind.{run-blind}
-use Rattle.typst_language.proofs.Knowing.{knows-none}
-use Rattle.typst_language.specs.View.{View, Goes, Bare, Loose, at}
-use Rattle.typst_grammar.specs.Grammar.{meaning}
-use Rattle.typst_grammar.specs.Part.{IsPart, IsResumed, IsGiven}
-use Rattle.typst_grammar.specs.declared.part.ReadPart.{ReadPart}
-use Rattle.typst_grammar.specs.Guessing.{guesses, guessing_at}
+use Rattle.typst_grammar.proofs.Cited.{◌≡◌, ℕ, List, [], ◌++◌, ap, ◌∙◌, arith, Tree, Place, CharClasses, Reading, Meaning, Outcome, apart, blockless, standing, start_point, run, Point, hinted, Parser, run-blind, knows-none, View, Goes, Bare, Loose, at, meaning, IsPart, IsResumed, IsGiven, guesses, guessing_at, ReadPart}
 use Rattle.typst_grammar.proofs.AtLevels.{less-nil, hinted-nil, still-kept}
 
 -- what stands after an outcome where nothing stood before it

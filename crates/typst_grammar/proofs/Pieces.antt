@@ -1,49 +1,12 @@
 -- Pieces of a run, which are read one after the other.
-use Rattle.std.proofs.Common.{◌≡◌, ℕ, zero, suc, ◌+◌, ◌<◌, ◌≤◌, ◌==◌, Bool, true, false, ◌&&◌, nat_lt, List, [], ◌∷◌, ◌++◌, length, length-append, encode_utf8_all, drop, append_assoc, append-nil, refl, ap, sym, ◌∙◌, subst, arith}
+use Rattle.typst_grammar.proofs.Cited.{◌≡◌, ℕ, zero, suc, ◌+◌, ◌<◌, ◌≤◌, ◌==◌, Bool, true, false, ◌&&◌, nat_lt, List, [], ◌∷◌, ◌++◌, length, length-append, encode_utf8_all, drop, append_assoc, append-nil, refl, ap, sym, ◌∙◌, subst, arith, nat_tests, SyntaxKind, Place, moved, CharClasses, position, Tree, MarkupExpr, Ask, shift, shift_one, is_end, deeper, Hand, AtHand, as_at_hand, meaning_of, no_log, logged, Outcome, Meaning, Level, guessing, hand_of, asked, joined, standing, run, Point, pending, gap_of, peek, flush_trivia, Parser, ◌>>=◌, hand, gives, does, next, pick, run-blind, hand-takes, hand-again, moved-ahead, moved-sum, within-run, Sound, knows-none, does-next, does-gives, does-peek, does-pick, does-flush, known-few, View, Runs, Does, Goes, Frame, Fills, Fits, Bare, Flushed, at, RunKind, ends, note_piece, markup_turn, markup_expr, markup_reading, stops_of, flushed_state, level_at, IsResumed, IsGiven, HasRead, HasReadOn, ArePieces, made, goes, AllGo, End, end_of, asks_of, given, run_level, first_look, pieces_on, end_on, guesses, guessing_at, fills-apart, sound-apart, lt-ltb, ReadPart}
 use Rattle.std.specs.Char.{encode_utf8}
 use Rattle.typst_lines.proofs.PlaceLemmas.{encode_utf8_nonempty}
-use Rattle.std.proofs.lemmas.Bool.Decides.{nat_tests}
 use Rattle.std.proofs.lemmas.List.{map-append}
-use Rattle.typst_kinds.specs.declared.kind.SyntaxKind.{SyntaxKind}
-use Rattle.typst_lines.specs.Place.{Place, moved}
-use Rattle.typst_lines.specs.Classes.{CharClasses}
-use Rattle.typst_tokens.specs.Sight.{position}
-use Rattle.typst_tree.specs.Tree.{Tree}
-use Rattle.typst_language.specs.Calls.Call.{MarkupExpr}
-use Rattle.typst_language.specs.Ask.{Ask, shift, shift_one}
-use Rattle.typst_language.specs.Depth.{is_end, deeper}
-use Rattle.typst_language.specs.Hand.{Hand, AtHand, as_at_hand}
-use Rattle.typst_language.specs.Knot.{meaning_of}
-use Rattle.typst_language.specs.Log.{no_log, logged}
-use Rattle.typst_language.specs.Meaning.{Outcome, Meaning, Level, guessing, hand_of, asked, joined, standing, run}
-use Rattle.typst_language.specs.Point.{Point, pending, gap_of}
-use Rattle.typst_language.specs.Steps.{peek, flush_trivia}
-use Rattle.typst_language.specs.Syntax.{Parser, ◌>>=◌}
-use Rattle.typst_language.specs.Syntax.Op.{hand}
-use Rattle.typst_language.specs.Syntax.Parser.{gives, does, next, pick}
-use Rattle.typst_language.proofs.Blind.{run-blind}
-use Rattle.typst_language.proofs.Ends.{hand-takes, hand-again}
-use Rattle.typst_language.proofs.Places.{moved-ahead, moved-sum}
-use Rattle.typst_language.proofs.Blocks.{fills-apart, sound-apart}
 use Rattle.typst_language.specs.Bytes.{bytes_left}
-use Rattle.typst_language.proofs.Within.{within-run}
-use Rattle.typst_language.specs.Sound.{Sound}
 use Rattle.typst_language.proofs.Logs.{logged-append, logged-shift}
-use Rattle.typst_language.proofs.Knowing.{knows-none}
-use Rattle.typst_language.proofs.Steps.{does-next, does-gives, does-peek, does-pick, does-flush, known-few}
-use Rattle.typst_language.specs.View.{View, Runs, Does, Goes, Frame, Fills, Fits, Bare, Flushed, at}
-use Rattle.typst_grammar.specs.declared.part.RunKind.{RunKind}
 use Rattle.typst_grammar.specs.declared.part.RunKind.TheVariants as of
-use Rattle.typst_code.specs.Markup.{ends, note_piece, markup_turn, markup_expr, markup_reading}
-use Rattle.typst_grammar.specs.Pieces.{stops_of}
-use borrow.Author.Tests.{lt-ltb}
-use Rattle.typst_language.specs.Meaning.{flushed_state}
-use Rattle.typst_grammar.specs.Grammar.{level_at}
-use Rattle.typst_grammar.specs.Part.{IsResumed, IsGiven, HasRead, HasReadOn, ArePieces}
-use Rattle.typst_grammar.specs.Pieces.{made, goes, AllGo, End, end_of, asks_of, given, run_level, first_look, pieces_on, end_on}
-use Rattle.typst_grammar.specs.declared.part.ReadPart.{ReadPart}
 use Rattle.typst_grammar.specs.declared.part.PieceReader.{PieceReader}
-use Rattle.typst_grammar.specs.Guessing.{guesses, guessing_at}
 use Rattle.typst_grammar.proofs.AtLevels.{sound-at, still-kept}
 use Rattle.typst_grammar.proofs.Parts.{standing-nil}
 use Rattle.typst_grammar.proofs.Whole.{eats-expr}

@@ -1,35 +1,12 @@
 -- The facts of code: each part is proper, though an operator makes a binary node, and what a token begins takes it first.
-use Rattle.std.proofs.Common.{◌≡◌, ℕ, Bool, true, false, List, Option, Some, None, refl, arith}
-use Rattle.std.specs.Prelude.{not}
-use Rattle.typst_kinds.specs.Kinds.{same}
-use Rattle.typst_kinds.specs.declared.kind.SyntaxKind.{SyntaxKind}
+use Rattle.typst_grammar.proofs.Cited.{◌≡◌, ℕ, Bool, true, false, List, Option, Some, None, refl, arith, same, SyntaxKind, AfterName, CodeHead, CodeTail, argument_shape, argument, argument_turn, argument_list, listed_arguments, content_turn, missing_arguments, begin_arguments, arguments, code_head, code_by, unary_expr, code_primary, code_tail, direct_field, call_tail, tail_by, code_tail_turn, code_expr, binary_expr, not_in, expect_identifier, AtHand, missing_break, statement_end, statement, code_turn, code_exprs, code, code_reading, ends_code, any_block, field, target_turn, target, set_rule, show_shape, show_rule, contextual, other_branch, conditional_turn, conditional, while_loop, second_pattern, loop_names, for_loop, module_include, jump, func_return, Shape, becomes, keeps, within, eat, eat_if, close_if, expected, Parser, ◌>>=◌, scoped, on_both, and_parts, deeper, is_end, closure_shape, name_shape, underscore_shape, named, placeholder, Key, path_turn, import_name, import_path, renaming, import_shape, import_turn, import_items, parens_shape, import_parens, imported, module_import, not}
 use Rattle.typst_kinds.specs.declared.kind.SyntaxKind.TheVariants as kind
-use Rattle.typst_language.specs.declared.calls.AfterName.{AfterName}
-use Rattle.typst_code.specs.declared.heads.CodeHead.{CodeHead}
 use Rattle.typst_code.specs.declared.heads.CodeHead.TheVariants as head
-use Rattle.typst_code.specs.declared.heads.CodeTail.{CodeTail}
 use Rattle.typst_code.specs.declared.heads.CodeTail.TheVariants as tail
 use Rattle.typst_code.specs.declared.listing.ParenItems.{ParenItems}
-use Rattle.typst_code.specs.keys.Key.{Key}
-use Rattle.typst_code.specs.Arguments.{argument_shape, argument, argument_turn, argument_list, listed_arguments, content_turn, missing_arguments, begin_arguments, arguments}
-use Rattle.typst_code.specs.Expressions.{code_head, code_by, unary_expr, code_primary, code_tail, direct_field, call_tail, tail_by, code_tail_turn, code_expr, binary_expr, not_in}
-use Rattle.typst_language.specs.Expected.{expect_identifier}
-use Rattle.typst_language.specs.Hand.{AtHand}
 use Rattle.typst_code.specs.Groups.{spread, pair, item_shape, misfit, item, group_turn, group_kind, group_shape, group_rest, group}
-use Rattle.typst_code.specs.Imports.{path_turn, import_name, import_path, renaming, import_shape, import_turn, import_items, parens_shape, import_parens, imported, module_import}
 use Rattle.typst_code.specs.Parens.{as_group, readings, sign, parens}
-use Rattle.typst_code.specs.Sequences.{missing_break, statement_end, statement, code_turn, code_exprs, code, code_reading, ends_code}
-use Rattle.typst_code.specs.Statements.{any_block, field, target_turn, target, set_rule, show_shape, show_rule, contextual, other_branch, conditional_turn, conditional, while_loop, second_pattern, loop_names, for_loop, module_include, jump, func_return}
-use Rattle.typst_language.specs.Shape.{Shape, becomes}
-use Rattle.typst_language.specs.Shape.Shape.{keeps}
-use Rattle.typst_language.specs.Steps.{within, eat, eat_if, close_if, expected}
-use Rattle.typst_language.specs.Syntax.{Parser, ◌>>=◌}
-use Rattle.typst_language.specs.Syntax.Parser.{scoped}
-use Rattle.typst_language.proofs.Within.{on_both}
-use Rattle.std.proofs.lemmas.Bool.{and_parts}
-use Rattle.typst_language.specs.Depth.{deeper, is_end}
 use Rattle.typst_code.specs.Bindings.{bound_name as bound_function, bound_part, binding, let_binding}
-use Rattle.typst_code.specs.Closures.{closure_shape, name_shape, underscore_shape, named, placeholder}
 use Rattle.typst_grammar.proofs.Fine.{tame}
 use Rattle.typst_grammar.proofs.FineRuns.{tame_if, Gives, gives-all}
 use Rattle.typst_grammar.proofs.Proper.{proper_steps, Scope, Proper, bracket-there, brace-there, proper-eat, proper-if, proper-close, proper-expected, proper-within, proper-shaped, proper-node, proper-grow, proper-read, proper-identifier, tame-closed, tame-both}

@@ -1,24 +1,9 @@
 -- The facts of formulas: each part is proper, and what a token begins takes it first.
-use Rattle.std.proofs.Common.{◌≡◌, ℕ, Bool, true, ◌==◌, List, refl, arith}
-use Rattle.std.specs.Prelude.{codes}
-use Rattle.typst_lines.specs.Classes.{CharClasses}
-use Rattle.typst_kinds.specs.Kinds.{same}
-use Rattle.typst_kinds.specs.declared.kind.SyntaxKind.{SyntaxKind}
+use Rattle.typst_grammar.proofs.Cited.{◌≡◌, ℕ, Bool, true, ◌==◌, List, refl, arith, CharClasses, same, SyntaxKind, ChainSet, seeing, Seen, becomes, stays, itself, wanted, keeps, holds, eat, on_both, Key, operand, attachment_turn, attachments, primes, MathHead, codes}
 use Rattle.typst_kinds.specs.declared.kind.SyntaxKind.TheVariants as kind
-use Rattle.typst_language.specs.declared.calls.ChainSet.{ChainSet}
-use Rattle.typst_code.specs.keys.Key.{Key}
-use Rattle.typst_language.specs.Expected.{seeing}
-use Rattle.typst_language.specs.Shape.{Seen, becomes}
-use Rattle.typst_language.specs.Shape.NodeChange.{stays}
-use Rattle.typst_language.specs.Shape.Making.{itself, wanted}
-use Rattle.typst_language.specs.Shape.Shape.{keeps, holds}
-use Rattle.typst_language.specs.Steps.{eat}
-use Rattle.typst_language.proofs.Within.{on_both}
-use Rattle.typst_code.specs.Attachments.{operand, attachment_turn, attachments, primes}
 use Rattle.typst_code.specs.Delimited.{delimiter_kind, delimiter_sign, delimiter, body_shape, delimited_body, delimiter_if, delimited_shape, delimited}
 use Rattle.typst_code.specs.MathArguments.{value_shape, argument_exprs, argument_value, name_making, eat_name, argument_name, name_change as math_change, named_argument, spread_argument, math_argument, argument_end, math_argument_turn, math_arguments}
 use Rattle.typst_code.specs.MathExpressions.{math_text, root, math_by, math_primary, fraction, tail_by as math_tail_by, math_tail_turn, math_grown, math_expr}
-use Rattle.typst_code.specs.math_heads.MathHead.{MathHead}
 use Rattle.typst_code.specs.math_heads.MathHead.TheVariants as math_heads
 use Rattle.typst_code.specs.math_heads.MathTail.{MathTail}
 use Rattle.typst_code.specs.math_heads.MathTail.TheVariants as math_tails

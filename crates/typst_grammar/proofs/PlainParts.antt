@@ -1,29 +1,10 @@
 -- The facts of markup and of patterns: each is proper, and what a token begins takes it first.
-use Rattle.std.proofs.Common.{◌≡◌, ℕ, Bool, true, false, if◌then◌else◌, List, Option, refl, arith}
-use Rattle.typst_kinds.specs.Kinds.{same}
-use Rattle.typst_kinds.specs.declared.kind.SyntaxKind.{SyntaxKind}
+use Rattle.typst_grammar.proofs.Cited.{◌≡◌, ℕ, Bool, true, false, if◌then◌else◌, List, Option, refl, arith, same, SyntaxKind, Role, AfterName, MarkupHead, right_side, embedded_end, embedded_expr, embedded, math_expression, math_item, math_turn, math_exprs, math, between_dollars, equation, note_piece, markup_turn, markup_exprs, markup_run, markup, markup_is_empty, emphasized, delimited, heading, item, term_item, direct_content, markup_reading, ends_block, reference, markup_head, markup_by, markup_expr, defaulted, param, param_turn, params, separator, bound_change, bound_name, pattern_leaf, sink, sink_shape, name_and_colon, key, key_or_pattern, named_shape, part, Found, destructuring_item, destructuring_turn, destructuring, pattern, Shape, encloses, itself, close_if, note, Parser, ◌>>=◌, takes, does, scoped, and_parts}
 use Rattle.typst_kinds.specs.declared.kind.SyntaxKind.TheVariants as kind
 use Rattle.typst_code.specs.bindings.Bound.{Bound}
-use Rattle.typst_language.specs.declared.calls.Role.{Role}
-use Rattle.typst_language.specs.declared.calls.AfterName.{AfterName}
 use Rattle.typst_language.specs.declared.calls.AfterName.TheVariants as after
-use Rattle.typst_code.specs.head.MarkupHead.{MarkupHead}
 use Rattle.typst_code.specs.head.MarkupHead.TheVariants as head
 use Rattle.typst_code.specs.Bindings.{equals, bound_shape}
-use Rattle.typst_code.specs.Closures.{right_side}
-use Rattle.typst_code.specs.Embedded.{embedded_end, embedded_expr, embedded}
-use Rattle.typst_code.specs.Equations.{math_expression, math_item, math_turn, math_exprs, math, between_dollars, equation}
-use Rattle.typst_code.specs.Markup.{note_piece, markup_turn, markup_exprs, markup_run, markup, markup_is_empty, emphasized, delimited, heading, item, term_item, direct_content, markup_reading, ends_block, reference, markup_head, markup_by, markup_expr}
-use Rattle.typst_code.specs.Params.{defaulted, param, param_turn, params}
-use Rattle.typst_code.specs.Parts.{separator}
-use Rattle.typst_code.specs.Patterns.{bound_change, bound_name, pattern_leaf, sink, sink_shape, name_and_colon, key, key_or_pattern, named_shape, part, Found, destructuring_item, destructuring_turn, destructuring, pattern}
-use Rattle.typst_language.specs.Shape.{Shape, encloses}
-use Rattle.typst_language.specs.Shape.Making.{itself}
-use Rattle.typst_language.specs.Steps.{close_if, note}
-use Rattle.typst_language.specs.Syntax.{Parser, ◌>>=◌}
-use Rattle.typst_language.specs.Syntax.Op.{takes}
-use Rattle.typst_language.specs.Syntax.Parser.{does, scoped}
-use Rattle.std.proofs.lemmas.Bool.{and_parts}
 use Rattle.typst_language.specs.declared.calls.Mark.TheVariants as mark
 use Rattle.typst_grammar.proofs.Fine.{tame, tame_change, tame_kind}
 use Rattle.typst_grammar.proofs.Proper.{proper_steps, Scope, unseen, Proper, bracket-there, proper-eat, proper-if, proper-close, proper-within, proper-node, proper-trivia, proper-read, proper-expects, proper-deep, proper-deeper}

@@ -1,21 +1,6 @@
 -- What an expression begins with.
-use Rattle.std.proofs.Common.{◌≡◌, ℕ, zero, suc, ◌+◌, ◌<◌, ◌≤◌, Bool, true, false, not, ◌||◌, List, [], ◌∷◌, ◌++◌, length, codes, refl, ap, sym, ◌∙◌, ◌⊎◌, inl, inr, subst, arith, length-append}
-use Rattle.typst_kinds.specs.Kinds.{is_error}
-use Rattle.typst_kinds.specs.declared.kind.SyntaxKind.{SyntaxKind}
-use Rattle.typst_lines.specs.Place.{Place, moved}
-use Rattle.typst_tree.specs.Tree.{Tree}
-use Rattle.typst_lines.specs.Classes.{CharClasses}
-use Rattle.typst_language.specs.declared.calls.Block.{Block}
-use Rattle.typst_code.specs.declared.heads.CodeHead.{CodeHead}
+use Rattle.typst_grammar.proofs.Cited.{◌≡◌, ℕ, zero, suc, ◌+◌, ◌<◌, ◌≤◌, Bool, true, false, not, ◌||◌, List, [], ◌∷◌, ◌++◌, length, codes, refl, ap, sym, ◌∙◌, ◌⊎◌, inl, inr, subst, arith, length-append, is_error, SyntaxKind, Place, moved, Tree, CharClasses, Block, CodeHead, code_by, code_head, code_primary, Hand, AtHand, as_at_hand, Point, pending, forgot, peek, expected, next, block, Outcome, Level, plain, closed, flushed_state, hand_of, hand_asks_of, asked, run, hand-again, block_production, level_at}
 use Rattle.typst_code.specs.declared.heads.CodeHead.TheVariants as head
-use Rattle.typst_code.specs.Expressions.{code_by, code_head, code_primary}
-use Rattle.typst_language.specs.Hand.{Hand, AtHand, as_at_hand}
-use Rattle.typst_language.specs.Point.{Point, pending, forgot}
-use Rattle.typst_language.specs.Steps.{peek, expected}
-use Rattle.typst_language.specs.Syntax.Parser.{next, block}
-use Rattle.typst_language.specs.Meaning.{Outcome, Level, plain, closed, flushed_state, hand_of, hand_asks_of, asked, run}
-use Rattle.typst_language.proofs.Ends.{hand-again}
-use Rattle.typst_grammar.specs.Grammar.{block_production, level_at}
 use Rattle.typst_grammar.proofs.Begun.{opens, keeps_token, first-code, bare-block, bare-code}
 use Rattle.typst_grammar.proofs.Fine.{All, all-append, all-drop, all-map}
 use Rattle.typst_grammar.proofs.FineRuns.{Binds, Still, still-hand}

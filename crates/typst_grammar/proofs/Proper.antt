@@ -1,25 +1,7 @@
 -- Proper parsers: what each makes, notes and reads, as one fact; and the steps that all are made of.
-use Rattle.std.proofs.Common.{◌≡◌, ℕ, Bool, true, false, List, Option, refl, arith}
-use Rattle.std.specs.Prelude.{codes, not}
-use Rattle.typst_kinds.specs.Kinds.{same}
-use Rattle.typst_kinds.specs.declared.kind.SyntaxKind.{SyntaxKind}
+use Rattle.typst_grammar.proofs.Cited.{◌≡◌, ℕ, Bool, true, false, List, Option, refl, arith, same, SyntaxKind, Block, Mark, Reading, ChainSet, Role, Call, Answer, CodeExpr, MathExpr, Pattern, anywhere, skip_one, too_deep, deeper, is_end, expects, expect_identifier, seeing, Making, Shape, encloses, itself, of_kind, surprise, wanted, eat_making, eat, convert_and_eat, eat_so, eat_if, close_if, unexpected, expected, expect, flush_trivia, within, node, node_with_trivia, grow, nest, read_block, Parser, Op, hand, marks, gives, does, next, pick, repeat, wraps, grows, nests, scoped, either, calls, block, codes, not}
 use Rattle.typst_kinds.specs.declared.kind.SyntaxKind.TheVariants as kind
-use Rattle.typst_language.specs.declared.calls.Block.{Block}
-use Rattle.typst_language.specs.declared.calls.Mark.{Mark}
 use Rattle.typst_language.specs.declared.calls.Way.{Way}
-use Rattle.typst_language.specs.declared.reading.Reading.{Reading}
-use Rattle.typst_language.specs.declared.calls.ChainSet.{ChainSet}
-use Rattle.typst_language.specs.declared.calls.Role.{Role}
-use Rattle.typst_language.specs.Calls.{Call, Answer}
-use Rattle.typst_language.specs.Calls.Call.{CodeExpr, MathExpr, Pattern}
-use Rattle.typst_language.specs.Depth.{anywhere, skip_one, too_deep, deeper, is_end}
-use Rattle.typst_language.specs.Expected.{expects, expect_identifier, seeing}
-use Rattle.typst_language.specs.Shape.{Making, Shape, encloses}
-use Rattle.typst_language.specs.Shape.Making.{itself, of_kind, surprise, wanted}
-use Rattle.typst_language.specs.Steps.{eat_making, eat, convert_and_eat, eat_so, eat_if, close_if, unexpected, expected, expect, flush_trivia, within, node, node_with_trivia, grow, nest, read_block}
-use Rattle.typst_language.specs.Syntax.{Parser, Op}
-use Rattle.typst_language.specs.Syntax.Op.{hand, marks}
-use Rattle.typst_language.specs.Syntax.Parser.{gives, does, next, pick, repeat, wraps, grows, nests, scoped, either, calls, block}
 use Rattle.typst_grammar.proofs.Fine.{tame, is_ordinary, tame_kind, tame_making, tame-ordinary}
 use Rattle.typst_grammar.proofs.FineRuns.{begins_none, op_by, tame_if, Gives, gives-all, PlainBy, Plain, plain-weaker}
 

@@ -1,14 +1,7 @@
 -- Which operator stands first among several nodes.
-use Rattle.std.proofs.Common.{◌≡◌, Bool, true, false, if◌then◌else◌, List, [], ◌∷◌, ◌++◌, Option, Some, None, refl, ap, ◌∙◌, arith}
-use Rattle.typst_kinds.proofs.Sameness.{same-is}
-use Rattle.typst_kinds.specs.Kinds.{same}
-use Rattle.typst_kinds.specs.Operators.{binary_of}
-use Rattle.typst_kinds.specs.declared.kind.SyntaxKind.{SyntaxKind}
+use Rattle.typst_grammar.proofs.Cited.{◌≡◌, Bool, true, false, if◌then◌else◌, List, [], ◌∷◌, ◌++◌, Option, Some, None, refl, ap, ◌∙◌, arith, same, binary_of, SyntaxKind, BinOp, Tree, leaf_of, first_sign, same-is}
 use Rattle.typst_kinds.specs.declared.kind.SyntaxKind.TheVariants as kind
-use Rattle.typst_kinds.specs.declared.operator.BinOp.{BinOp}
 use Rattle.typst_kinds.specs.declared.operator.BinOp.TheVariants as binary
-use Rattle.typst_tree.specs.Tree.{Tree, leaf_of}
-use Rattle.typst_grammar.specs.Binding.{first_sign}
 use Rattle.typst_grammar.proofs.Lists.{All}
 
 -- the operator that a token of this kind begins: `not` begins `not in`

@@ -1,34 +1,11 @@
 -- What takes an expression into its node, turn by turn.
-use Rattle.std.proofs.Common.{codes, append_assoc, ◌≡◌, ℕ, ◌+◌, ◌≤◌, ◌<◌, Bool, true, false, ◌||◌, not, if◌then◌else◌, List, [], ◌∷◌, ◌++◌, Option, Some, None, refl, ap, sym, ◌∙◌, ◌⊎◌, inl, inr, subst, arith, encode_utf8_all}
-use Rattle.typst_kinds.specs.Kinds.{same, is_error}
-use Rattle.typst_kinds.specs.declared.kind.SyntaxKind.{SyntaxKind}
+use Rattle.typst_grammar.proofs.Cited.{codes, append_assoc, ◌≡◌, ℕ, ◌+◌, ◌≤◌, ◌<◌, Bool, true, false, ◌||◌, not, if◌then◌else◌, List, [], ◌∷◌, ◌++◌, Option, Some, None, refl, ap, sym, ◌∙◌, ◌⊎◌, inl, inr, subst, arith, encode_utf8_all, same, is_error, SyntaxKind, BinOp, Place, moved, Tree, forest, CharClasses, CodeExpr, calls_directly, opens_arguments, field, CodeTail, deeper, is_end, code_tail_turn, call_tail, not_in, binary_expr, code_tail, operand_least, tail_by, Hand, AtHand, as_at_hand, text_ahead, is_nil, Point, pending, Shape, becomes, peek, eat, expected, Parser, next, Outcome, Level, plain, less, reshaped, joined, answered, bound, grown, is_more, hand_of, hand_asks_of, asked, run, hand-again, hand-takes, sane-at, moved-sum, no-end, any_errors, has_errors, first_sign, right_least}
 use Rattle.typst_kinds.specs.declared.kind.SyntaxKind.TheVariants as kind
-use Rattle.typst_kinds.specs.declared.operator.BinOp.{BinOp}
 use Rattle.typst_kinds.specs.declared.operator.BinOp.TheVariants as binary
 use Rattle.typst_lines.proofs.Bools.{and-first}
-use Rattle.typst_lines.specs.Place.{Place, moved}
-use Rattle.typst_tree.specs.Tree.{Tree, forest}
-use Rattle.typst_lines.specs.Classes.{CharClasses}
-use Rattle.typst_language.specs.Calls.Call.{CodeExpr}
-use Rattle.typst_code.specs.Arguments.{calls_directly, opens_arguments}
-use Rattle.typst_code.specs.Statements.{field}
-use Rattle.typst_code.specs.declared.heads.CodeTail.{CodeTail}
 use Rattle.typst_code.specs.declared.heads.CodeTail.TheVariants as tail
-use Rattle.typst_language.specs.Depth.{deeper, is_end}
-use Rattle.typst_code.specs.Expressions.{code_tail_turn, call_tail, not_in, binary_expr, code_tail, operand_least, tail_by}
-use Rattle.typst_language.specs.Hand.{Hand, AtHand, as_at_hand, text_ahead}
-use Rattle.typst_language.specs.Point.{is_nil, Point, pending}
-use Rattle.typst_language.specs.Shape.{Shape, becomes}
-use Rattle.typst_language.specs.Steps.{peek, eat, expected}
-use Rattle.typst_language.specs.Syntax.{Parser}
-use Rattle.typst_language.specs.Syntax.Parser.{next}
-use Rattle.typst_language.specs.Meaning.{Outcome, Level, plain, less, reshaped, joined, answered, bound, grown, is_more, hand_of, hand_asks_of, asked, run}
-use Rattle.typst_language.proofs.Ends.{hand-again, hand-takes}
-use Rattle.typst_language.proofs.Knot.{sane-at}
-use Rattle.typst_language.proofs.Places.{moved-sum, no-end}
 use Rattle.typst_grammar.specs.Grammar.{rules, level_at}
 use Rattle.typst_grammar.proofs.Moves.{moves-eat}
-use Rattle.typst_grammar.specs.Binding.{any_errors, has_errors, first_sign, right_least}
 use Rattle.typst_grammar.proofs.Signs.{sign_of, NoSign, reads-sign, reads-not}
 use Rattle.typst_grammar.proofs.Fine.{All, all-map, or-left, or-right}
 use Rattle.typst_grammar.proofs.FineRuns.{Binds, binds-joined, Still, still-hand, after-shape-known}

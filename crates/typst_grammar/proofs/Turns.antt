@@ -1,23 +1,6 @@
 -- Turns that go on up to the end of a text read all of it.
-use Rattle.std.proofs.Common.{◌≡◌, ℕ, zero, suc, ◌<◌, ◌≤◌, Bool, true, false, ◌&&◌, if◌then◌else◌, nat_lt, List, length, refl, ap, sym, ◌∙◌, arith}
-use Rattle.std.proofs.lemmas.Bool.Decides.{nat_tests}
-use Rattle.typst_kinds.specs.declared.kind.SyntaxKind.{SyntaxKind}
-use Rattle.typst_kinds.specs.declared.mode.SyntaxMode.{SyntaxMode}
-use Rattle.typst_lines.specs.Place.{Place, moved}
-use Rattle.typst_lines.specs.Classes.{CharClasses}
+use Rattle.typst_grammar.proofs.Cited.{◌≡◌, ℕ, zero, suc, ◌<◌, ◌≤◌, Bool, true, false, ◌&&◌, if◌then◌else◌, nat_lt, List, length, refl, ap, sym, ◌∙◌, arith, nat_tests, SyntaxKind, SyntaxMode, Place, moved, CharClasses, Reading, Point, Hand, AtHand, hand_at, as_at_hand, Parser, ◌>>◌, hand, is_deepest, gives, does, next, pick, repeat, flush_trivia, is_end, Outcome, Level, joined, turns, as_last, bound, repeated, hand_of, asked, start_point, run, moved-sum, ahead-left, hand-takes, hand-ends, hand-again, sane-at}
 use Rattle.typst_language.specs.declared.reading.AtNewline.TheVariants as newline
-use Rattle.typst_language.specs.declared.reading.Reading.{Reading}
-use Rattle.typst_language.specs.Point.{Point}
-use Rattle.typst_language.specs.Hand.{Hand, AtHand, hand_at, as_at_hand}
-use Rattle.typst_language.specs.Syntax.{Parser, ◌>>◌}
-use Rattle.typst_language.specs.Syntax.Op.{hand, is_deepest}
-use Rattle.typst_language.specs.Syntax.Parser.{gives, does, next, pick, repeat}
-use Rattle.typst_language.specs.Steps.{flush_trivia}
-use Rattle.typst_language.specs.Depth.{is_end}
-use Rattle.typst_language.specs.Meaning.{Outcome, Level, joined, turns, as_last, bound, repeated, hand_of, asked, start_point, run}
-use Rattle.typst_language.proofs.Places.{moved-sum, ahead-left}
-use Rattle.typst_language.proofs.Ends.{hand-takes, hand-ends, hand-again}
-use Rattle.typst_language.proofs.Knot.{sane-at}
 use Rattle.typst_language.proofs.Rests.{Rests}
 use Rattle.typst_grammar.specs.Grammar.{rules, level_at, max_depth, start_of}
 

@@ -1,23 +1,7 @@
 -- The whole text is read.
-use Rattle.std.proofs.Common.{◌≡◌, ℕ, ◌<◌, ◌≤◌, Bool, true, List, length, encode_utf8_all, refl, ap, ◌∙◌, arith}
-use Rattle.typst_kinds.specs.declared.kind.SyntaxKind.{SyntaxKind}
-use Rattle.typst_lines.specs.Place.{moved}
-use Rattle.typst_tree.specs.Tree.{text_of}
-use Rattle.typst_lines.specs.Classes.{CharClasses}
-use Rattle.typst_language.specs.Calls.Call.{MarkupExpr}
-use Rattle.typst_language.specs.Knot.{meaning_of}
-use Rattle.typst_language.specs.Syntax.{Parser, ◌>>◌, ◌>>=◌}
-use Rattle.typst_language.specs.Syntax.Parser.{gives, next, repeat}
-use Rattle.typst_language.specs.Steps.{peek, unexpected}
-use Rattle.typst_language.specs.Depth.{is_end, too_deep, deeper}
-use Rattle.typst_language.specs.Hand.{as_at_hand}
-use Rattle.typst_language.specs.Meaning.{Level, hand_of, start_point, run}
-use Rattle.typst_language.proofs.Places.{take-all}
-use Rattle.typst_language.proofs.Knot.{sane-at}
+use Rattle.typst_grammar.proofs.Cited.{◌≡◌, ℕ, ◌<◌, ◌≤◌, Bool, true, List, length, encode_utf8_all, refl, ap, ◌∙◌, arith, SyntaxKind, moved, text_of, CharClasses, MarkupExpr, meaning_of, Parser, ◌>>◌, ◌>>=◌, gives, next, repeat, peek, unexpected, is_end, too_deep, deeper, as_at_hand, Level, hand_of, start_point, run, take-all, sane-at, MarkupHead, ends, note_piece, markup_turn, markup_run, markup_head, markup_by, markup_expr, markup_reading}
 use Rattle.typst_language.proofs.Eaten.{Eats}
-use Rattle.typst_code.specs.head.MarkupHead.{MarkupHead}
 use Rattle.typst_code.specs.head.MarkupHead.TheVariants as head
-use Rattle.typst_code.specs.Markup.{ends, note_piece, markup_turn, markup_run, markup_head, markup_by, markup_expr, markup_reading}
 use Rattle.typst_kinds.specs.declared.mode.SyntaxMode.TheVariants as mode
 use Rattle.typst_grammar.specs.Grammar.{rules, level_at, max_depth, start_of, whole, parsed, tree}
 use Rattle.typst_grammar.proofs.Begun.{first-markup}

@@ -1,23 +1,7 @@
 -- The whole text of code is read.
-use Rattle.std.proofs.Common.{◌≡◌, ℕ, ◌≤◌, Bool, true, false, List, [], length, encode_utf8_all, refl, ap, ◌∙◌, arith}
+use Rattle.typst_grammar.proofs.Cited.{◌≡◌, ℕ, ◌≤◌, Bool, true, false, List, [], length, encode_utf8_all, refl, ap, ◌∙◌, arith, text_of, CharClasses, meaning_of, Parser, ◌>>=◌, ◌>>◌, gives, repeat, peek, unexpected, within, is_end, too_deep, deeper, as_at_hand, hand_of, start_point, run, take-all, sane-at, at_newline, code_expr, code_expression, code_reading, code_turn, code_exprs, statement, statement_end, begins_code}
 use Rattle.typst_kinds.specs.declared.mode.SyntaxMode.TheVariants as mode
-use Rattle.typst_tree.specs.Tree.{text_of}
-use Rattle.typst_lines.specs.Classes.{CharClasses}
 use Rattle.typst_language.specs.declared.reading.AtNewline.TheVariants as newline
-use Rattle.typst_language.specs.Knot.{meaning_of}
-use Rattle.typst_language.specs.Syntax.{Parser, ◌>>=◌, ◌>>◌}
-use Rattle.typst_language.specs.Syntax.Parser.{gives, repeat}
-use Rattle.typst_language.specs.Steps.{peek, unexpected, within}
-use Rattle.typst_language.specs.Depth.{is_end, too_deep, deeper}
-use Rattle.typst_language.specs.Hand.{as_at_hand}
-use Rattle.typst_language.specs.Meaning.{hand_of, start_point, run}
-use Rattle.typst_language.proofs.Places.{take-all}
-use Rattle.typst_language.proofs.Knot.{sane-at}
-use Rattle.typst_code.specs.Markup.{at_newline}
-use Rattle.typst_code.specs.Expressions.{code_expr}
-use Rattle.typst_code.specs.Starts.{begins_code}
-use Rattle.typst_code.specs.Parts.{code_expression}
-use Rattle.typst_code.specs.Sequences.{code_reading, code_turn, code_exprs, statement, statement_end}
 use Rattle.typst_grammar.specs.Grammar.{rules, max_depth, start_of, whole_code, parsed_code, tree_code}
 use Rattle.typst_grammar.proofs.Begun.{first-expr}
 use Rattle.typst_grammar.proofs.Firsts.{eaten-first}

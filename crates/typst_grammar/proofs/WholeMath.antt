@@ -1,21 +1,7 @@
 -- The whole text of a formula is read.
-use Rattle.std.proofs.Common.{◌≡◌, ℕ, ◌≤◌, Bool, true, refl, List, [], length, encode_utf8_all, ap, ◌∙◌, arith}
-use Rattle.typst_kinds.specs.Kinds.{among}
+use Rattle.typst_grammar.proofs.Cited.{◌≡◌, ℕ, ◌≤◌, Bool, true, refl, List, [], length, encode_utf8_all, ap, ◌∙◌, arith, among, text_of, CharClasses, meaning_of, Parser, ◌>>◌, gives, repeat, peek, unexpected, is_end, one_more, too_deep, deeper, math_expression, math_item, math_turn, math_exprs, math_reading, no_signs, as_at_hand, hand_of, start_point, run, take-all, sane-at, math_expr}
 use Rattle.typst_kinds.specs.Sets.{math_expr as math_kinds}
 use Rattle.typst_kinds.specs.declared.mode.SyntaxMode.TheVariants as mode
-use Rattle.typst_tree.specs.Tree.{text_of}
-use Rattle.typst_lines.specs.Classes.{CharClasses}
-use Rattle.typst_language.specs.Knot.{meaning_of}
-use Rattle.typst_language.specs.Syntax.{Parser, ◌>>◌}
-use Rattle.typst_language.specs.Syntax.Parser.{gives, repeat}
-use Rattle.typst_language.specs.Steps.{peek, unexpected}
-use Rattle.typst_language.specs.Depth.{is_end, one_more, too_deep, deeper}
-use Rattle.typst_code.specs.Equations.{math_expression, math_item, math_turn, math_exprs, math_reading, no_signs}
-use Rattle.typst_language.specs.Hand.{as_at_hand}
-use Rattle.typst_language.specs.Meaning.{hand_of, start_point, run}
-use Rattle.typst_language.proofs.Places.{take-all}
-use Rattle.typst_language.proofs.Knot.{sane-at}
-use Rattle.typst_code.specs.MathExpressions.{math_expr}
 use Rattle.typst_grammar.specs.Grammar.{rules, max_depth, start_of, whole_math, parsed_math, tree_math}
 use Rattle.typst_grammar.proofs.Begun.{first-math-expr}
 use Rattle.typst_grammar.proofs.Firsts.{eaten-first}

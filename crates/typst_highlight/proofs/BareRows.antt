@@ -1,17 +1,6 @@
 -- Tags don't depend on spans.
-use Rattle.std.proofs.Common.{◌≡◌, ℕ, ◌+◌, ◌++◌, length, Option, Some, refl, ap, ◌∙◌, cond, arith}
-use Rattle.typst_kinds.specs.Head.{Head}
-use Rattle.typst_kinds.specs.declared.kind.SyntaxKind.{SyntaxKind}
-use Rattle.typst_kinds.specs.Kinds.{is_trivia}
+use Rattle.typst_highlight.proofs.Cited.{◌≡◌, ℕ, ◌+◌, ◌++◌, length, Option, Some, refl, ap, ◌∙◌, cond, arith, Head, SyntaxKind, is_trivia, is_leaf, Tag, Rule, Ahead, Context, Trail, rule_of, end, first_ahead, first_leaf, found, name, next_kind, next_leaf, passed, passed_row, past, step, tag, tag_here, tree_of, within}
 use Rattle.typst_tree.specs.Tree.{Forest, none, more, Tree, bare, bare_forest, joined, saturated, text_of}
-use Rattle.typst_tree.specs.Walks.{is_leaf}
-use Rattle.typst_highlight.specs.declared.tags.Tag.{Tag}
-use Rattle.typst_highlight.specs.declared.rules.Rule.{Rule}
-use Rattle.typst_highlight.specs.declared.context.Ahead.{Ahead}
-use Rattle.typst_highlight.specs.declared.context.Context.{Context}
-use Rattle.typst_highlight.specs.declared.context.Trail.{Trail}
-use Rattle.typst_highlight.specs.Rules.{rule_of}
-use Rattle.typst_highlight.specs.Walk.{end, first_ahead, first_leaf, found, name, next_kind, next_leaf, passed, passed_row, past, step, tag, tag_here, tree_of, within}
 
 pub bare_joined : (f : Forest) → joined (bare_forest f) ≡ joined f
 bare_joined none = refl

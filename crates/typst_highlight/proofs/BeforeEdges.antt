@@ -1,17 +1,5 @@
 -- What stands before an edge sees nothing of what follows it.
-use Rattle.std.proofs.Common.{◌≡◌, ℕ, ◌+◌, Bool, true, false, ◌&&◌, ◌||◌, not, List, [], ◌∷◌, ◌++◌, length, Option, None, Some, ap, sym, ◌∙◌, cond, arith}
-use Rattle.std.specs.Option.{is_some}
-use Rattle.typst_kinds.specs.declared.kind.SyntaxKind.{SyntaxKind}
-use Rattle.typst_kinds.specs.Kinds.{is_trivia, is_hash_expr}
-use Rattle.typst_tree.specs.Tree.{Forest, more, Tree, forest, saturated, text_of}
-use Rattle.typst_tree.specs.Walks.{is_leaf}
-use Rattle.typst_highlight.specs.declared.tags.Tag.{Tag}
-use Rattle.typst_highlight.specs.declared.rules.Rule.{Rule}
-use Rattle.typst_highlight.specs.declared.context.Ahead.{Ahead}
-use Rattle.typst_highlight.specs.declared.context.Context.{Context}
-use Rattle.typst_highlight.specs.Edges.{is_plain, begins_plain, is_edge}
-use Rattle.typst_highlight.specs.Rules.{is_name, is_dot, is_field_access}
-use Rattle.typst_highlight.specs.Walk.{end, first_ahead, first_leaf, found, holds_leaf, name, next_kind, next_leaf, passed, past, tag, tag_here, within}
+use Rattle.typst_highlight.proofs.Cited.{◌≡◌, ℕ, ◌+◌, Bool, true, false, ◌&&◌, ◌||◌, not, List, [], ◌∷◌, ◌++◌, length, Option, None, Some, ap, sym, ◌∙◌, cond, arith, is_some, SyntaxKind, is_trivia, is_hash_expr, Forest, more, Tree, forest, saturated, text_of, is_leaf, Tag, Rule, Ahead, Context, is_name, is_dot, is_field_access, end, first_ahead, first_leaf, found, holds_leaf, name, next_kind, next_leaf, passed, past, tag, tag_here, within, is_plain, begins_plain, is_edge}
 use Rattle.typst_highlight.proofs.Cases.{and_first}
 
 -- ---- what is known of an edge

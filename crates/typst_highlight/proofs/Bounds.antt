@@ -1,15 +1,7 @@
 -- Steps lead to other numbers of the same tree.
-use Rattle.std.proofs.Common.{◌≡◌, ℕ, ◌+◌, ◌<◌, ◌≤◌, ◌==◌, Bool, true, false, ◌&&◌, List, [], ◌∷◌, length, map, Option, None, Some, refl, ap, sym, ◌∙◌, inl, inr, arith, cond}
-use Rattle.std.specs.Prelude.{nat_lt, find, option_and_then}
-use Rattle.std.specs.List.{list_any}
+use Rattle.typst_highlight.proofs.Cited.{◌≡◌, ℕ, ◌+◌, ◌<◌, ◌≤◌, ◌==◌, Bool, true, false, ◌&&◌, List, [], ◌∷◌, length, map, Option, None, Some, refl, ap, sym, ◌∙◌, inl, inr, arith, cond, nat_lt, find, option_and_then, list_any, nat_tests, Forest, none, more, Tree, count, places, saturated, numbers, first_at, last_leaf, if_none, has_child, is_leaf, At, at, kind_of, parent, next_sibling, prev_leaf, leftmost_leaf, is_name, is_dot, access, named, name_before, earlier_name, leaf_of, expression_leaf}
 use Rattle.std.proofs.lemmas.Bool.{cases_eq}
-use Rattle.std.proofs.lemmas.Bool.Decides.{nat_tests}
 use Rattle.std.proofs.lemmas.Option.{same_Some, none-some}
-use Rattle.typst_tree.specs.Tree.{Forest, none, more, Tree, count, places, saturated}
-use Rattle.typst_tree.specs.Walks.{numbers, first_at, last_leaf, if_none, has_child, is_leaf}
-use Rattle.typst_tree.specs.Steps.{At, at, kind_of, parent, next_sibling, prev_leaf, leftmost_leaf}
-use Rattle.typst_highlight.specs.Rules.{is_name, is_dot}
-use Rattle.typst_highlight.specs.Nodes.{access, named, name_before, earlier_name, leaf_of, expression_leaf}
 use Rattle.typst_highlight.proofs.Cases.{and_first, bool_cases, cond_case, cond_some, then_some, map_some}
 
 abbrev pub member : ℕ → List ℕ → Bool

@@ -1,7 +1,5 @@
 -- Cases of options and tests.
-use Rattle.std.proofs.Common.{◌≡◌, Bool, true, false, ◌&&◌, cond, Option, None, Some, arith}
-use Rattle.std.specs.Prelude.{option_and_then}
-use Rattle.std.specs.Option.{option_map}
+use Rattle.typst_highlight.proofs.Cited.{◌≡◌, Bool, true, false, ◌&&◌, cond, Option, None, Some, arith, option_and_then, option_map}
 
 pub and_first : (p q : Bool) → (p && q) ≡ true → p ≡ true
 and_first p q e = grind arith

@@ -1,15 +1,7 @@
 -- How many steps are allowed makes no difference where they are enough.
-use Rattle.std.proofs.Common.{◌≡◌, ℕ, suc, zero, ◌+◌, ◌<◌, ◌≤◌, Option, None, Some, refl, ap, sym, ◌∙◌, arith}
-use Rattle.std.specs.Prelude.{option_and_then}
-use Rattle.typst_tree.specs.Tree.{nodes}
-use Rattle.typst_tree.specs.Steps.{At, kind_of, parent}
-use Rattle.typst_highlight.specs.declared.tags.Tag.{Tag}
-use Rattle.typst_highlight.specs.declared.rules.Rule.{Rule}
+use Rattle.typst_highlight.proofs.Cited.{◌≡◌, ℕ, suc, zero, ◌+◌, ◌<◌, ◌≤◌, Option, None, Some, refl, ap, sym, ◌∙◌, arith, option_and_then, nodes, At, kind_of, parent, Tag, Rule, rule_of, first_tag, name_alone, access, from_or, outermost, surroundings, earlier_name, name_tag, expression_leaf, tag_by, tag_within}
 use Rattle.typst_highlight.specs.declared.rules.Rule.TheVariants as rule
 use Rattle.typst_highlight.specs.declared.context.Surroundings.{Surroundings}
-use Rattle.typst_highlight.specs.Rules.{rule_of}
-use Rattle.typst_highlight.specs.Names.{first_tag, name_alone}
-use Rattle.typst_highlight.specs.Nodes.{access, from_or, outermost, surroundings, earlier_name, name_tag, expression_leaf, tag_by, tag_within}
 use Rattle.typst_highlight.proofs.Bounds.{access_below, name_below, parent_below, expression_after}
 use Rattle.typst_highlight.proofs.Cases.{same_then}
 

@@ -1,20 +1,5 @@
 -- What a walk carries along is what the tree's list of nodes says.
-use Rattle.std.proofs.Common.{◌≡◌, ℕ, suc, zero, ◌+◌, ◌<◌, Bool, true, false, List, [], ◌∷◌, ◌++◌, Option, None, Some, refl, ap, sym, ◌∙◌, arith, cond, append-nil}
-use Rattle.std.specs.Prelude.{option_and_then}
-use Rattle.std.specs.Option.{option_map}
-use Rattle.typst_kinds.specs.Head.{Head}
-use Rattle.typst_tree.specs.Tree.{Forest, none, more, Tree, count, places, preorder}
-use Rattle.typst_tree.specs.Walks.{is_leaf}
-use Rattle.typst_tree.specs.Steps.{At, at, node_of, kind_of, offset_of, parent, prev_leaf}
-use Rattle.typst_tree.proofs.LastLeaf.{last_none}
-use Rattle.typst_tree.proofs.WalksInPreorder.{length_places}
-use Rattle.typst_highlight.specs.declared.tags.Tag.{Tag}
-use Rattle.typst_highlight.specs.declared.context.Outer.{Outer}
-use Rattle.typst_highlight.specs.declared.context.Trail.{Trail}
-use Rattle.typst_highlight.specs.declared.context.Context.{Context}
-use Rattle.typst_highlight.specs.Rules.{is_name, is_field_access}
-use Rattle.typst_highlight.specs.Names.{name_alone}
-use Rattle.typst_highlight.specs.Nodes.{kind_if, kind_before, access, outermost, surroundings, named, name_before, name_tag}
+use Rattle.typst_highlight.proofs.Cited.{◌≡◌, ℕ, suc, zero, ◌+◌, ◌<◌, Bool, true, false, List, [], ◌∷◌, ◌++◌, Option, None, Some, refl, ap, sym, ◌∙◌, arith, cond, append-nil, option_and_then, option_map, Head, Forest, none, more, Tree, count, places, preorder, is_leaf, At, at, node_of, kind_of, offset_of, parent, prev_leaf, length_places, Tag, Trail, Context, is_name, is_field_access, name_alone, kind_if, kind_before, access, outermost, surroundings, named, name_before, name_tag, last_none, Outer}
 use Rattle.typst_highlight.specs.Walk.{tree_of, first_ahead, first_leaf, next_leaf as leaf_behind, around, lead, end, within, past, seen, name, step, dotted, passed_row, passed}
 use Rattle.typst_highlight.proofs.Cases.{bool_cases}
 use Rattle.typst_highlight.proofs.Bounds.{parent_below, prev_below}

@@ -1,10 +1,6 @@
 -- Texts in which characters that have no entity stand between those that have one.
-use Rattle.std.proofs.Common.{◌≡◌, ℕ, ◌+◌, ◌-◌, ◌<◌, ◌≤◌, List, [], ◌∷◌, ◌++◌, length, drop, get_or, refl, ap, sym, ◌∙◌, arith, append_assoc, append-nil, length-drop}
-use Rattle.std.specs.List.{slice_range}
-use Rattle.std.proofs.lemmas.List.{take_more, drop_more, get_or-drop}
-use Rattle.std.proofs.Math.ListN.{drop_of_length-le}
+use Rattle.typst_highlight.proofs.Cited.{◌≡◌, ℕ, ◌+◌, ◌-◌, ◌<◌, ◌≤◌, List, [], ◌∷◌, ◌++◌, length, drop, get_or, refl, sym, arith, append_assoc, append-nil, length-drop, slice_range, take_more, drop_more, get_or-drop, escaped_byte, escaped}
 use Rattle.std.proofs.lemmas.List.Folds.{drop_split}
-use Rattle.typst_highlight.specs.Html.{escaped_byte, escaped}
 
 pub escaped_append : (xs ys : List ℕ) → escaped (xs ++ ys) ≡ escaped xs ++ escaped ys
 escaped_append [] ys = refl
@@ -25,12 +21,6 @@ pub entity_more : (xs html all mid next : List ℕ) (a b m x : ℕ) → a ≤ b 
 entity_more xs html all mid next a b m x h l e k p q i w =
     let parts : drop a xs ≡ slice_range xs a b ++ drop b xs = drop_split xs a b h in
     grind (arith, drop_more, escaped_append, append_assoc)
-
--- the rest has no entity
-pub plain_rest : (xs html all next : List ℕ) (a b : ℕ) → a ≤ b → length xs ≤ b → next ≡ html ++ drop a xs → escaped (slice_range xs a b) ≡ slice_range xs a b → html ++ escaped (drop a xs) ≡ all → next ≡ all
-plain_rest xs html all next a b h l p i w =
-    let rest : slice_range xs a b ≡ drop a xs = sym (drop_split xs a b h ∙ ap (λ ys. slice_range xs a b ++ ys) (drop_of_length-le xs l) ∙ append-nil (slice_range xs a b)) in
-    p ∙ ap (λ ys. html ++ ys) (sym rest ∙ sym i ∙ ap escaped rest) ∙ w
 
 -- nothing is left of a stretch that ends where it begins
 pub plain_none : (xs : List ℕ) (a b : ℕ) → a ≡ b → escaped (slice_range xs a b) ≡ slice_range xs a b

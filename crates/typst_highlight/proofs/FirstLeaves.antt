@@ -1,10 +1,5 @@
 -- The first leaf of trees that stand side by side, where the first of them tells it.
-use Rattle.std.proofs.Common.{◌≡◌, ℕ, ◌+◌, List, ◌∷◌, Option, Some, true, false, length, refl, arith}
-use Rattle.typst_kinds.specs.Head.{Head}
-use Rattle.typst_kinds.specs.declared.kind.SyntaxKind.{SyntaxKind}
-use Rattle.typst_tree.specs.Tree.{Forest, more, Tree, forest, saturated, text_of}
-use Rattle.typst_tree.specs.Walks.{is_childless, is_leaf}
-use Rattle.typst_highlight.specs.Walk.{first_leaf, tree_of}
+use Rattle.typst_highlight.proofs.Cited.{◌≡◌, ℕ, ◌+◌, List, ◌∷◌, Option, Some, true, false, length, refl, arith, Head, SyntaxKind, Forest, more, Tree, forest, saturated, text_of, is_childless, is_leaf, first_leaf, tree_of}
 
 -- it is the first tree
 pub leaf_here : (p : Option SyntaxKind) (a : ℕ) (t : Tree) (r : Forest) → is_leaf t ≡ true → first_leaf p a (more t.head t.kids r) ≡ Some (record { kind = t.head.kind; parent = p; offset = a })

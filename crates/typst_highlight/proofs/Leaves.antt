@@ -1,21 +1,6 @@
 -- The leaves round a node.
-use Rattle.std.proofs.Common.{◌≡◌, ℕ, ◌+◌, ◌<◌, ◌≤◌, Bool, true, false, List, [], ◌∷◌, ◌++◌, length, Option, None, Some, refl, ap, sym, ◌∙◌, arith, append_assoc, append-nil, length-append, cond}
-use Rattle.std.specs.Prelude.{nat_le, nat_lt, option_and_then}
-use Rattle.std.specs.Option.{option_map}
-use Rattle.std.proofs.lemmas.Bool.Decides.{nat_tests}
-use Rattle.typst_kinds.specs.declared.kind.SyntaxKind.{SyntaxKind}
-use Rattle.typst_kinds.specs.Head.{Head}
-use Rattle.typst_tree.specs.Tree.{Forest, none, more, Tree, count, nodes, places, preorder, saturated, text_of}
-use Rattle.typst_tree.specs.Walks.{texts, first_at, if_none, last_leaf, is_leaf, is_leaf_from}
+use Rattle.typst_highlight.proofs.Cited.{◌≡◌, ℕ, ◌+◌, ◌<◌, ◌≤◌, Bool, true, false, List, [], ◌∷◌, ◌++◌, length, Option, None, Some, refl, ap, sym, ◌∙◌, arith, append_assoc, append-nil, length-append, cond, nat_le, nat_lt, option_and_then, option_map, nat_tests, SyntaxKind, Head, Forest, none, more, Tree, count, nodes, places, preorder, saturated, text_of, texts, first_at, if_none, last_leaf, is_leaf, is_leaf_from, texts_append, texts_places, none_between, Tag, Ahead, Trail, is_name, kind_if, described, name_tag, tree_of, first_ahead, first_leaf, last_append, last_none}
 use Rattle.typst_tree.specs.Steps.{At, at, kind_of, offset_of, prev_leaf, next_leaf}
-use Rattle.typst_tree.proofs.WalksInPreorder.{texts_append, texts_places, none_between}
-use Rattle.typst_tree.proofs.LastLeaf.{last_append, last_none}
-use Rattle.typst_highlight.specs.declared.tags.Tag.{Tag}
-use Rattle.typst_highlight.specs.declared.context.Ahead.{Ahead}
-use Rattle.typst_highlight.specs.declared.context.Trail.{Trail}
-use Rattle.typst_highlight.specs.Rules.{is_name}
-use Rattle.typst_highlight.specs.Nodes.{kind_if, described, name_tag}
-use Rattle.typst_highlight.specs.Walk.{tree_of, first_ahead, first_leaf}
 use Rattle.typst_highlight.proofs.Cases.{bool_cases}
 use Rattle.typst_highlight.proofs.Rows.{Stand, here, starts, below, behind, parent_here, at_once, at_later, found_behind}
 

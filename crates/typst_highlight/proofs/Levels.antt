@@ -1,19 +1,8 @@
 -- What a level of the walk has is what is round its nodes, also where what is ahead was looked for or wasn't.
-use Rattle.std.proofs.Common.{◌≡◌, ℕ, ◌+◌, ap, sym, ◌∙◌, refl, Bool, true, false, ◌||◌, Option, None, Some, Result, length, cond, arith}
-use Rattle.std.specs.Option.{is_some}
+use Rattle.typst_highlight.proofs.Cited.{◌≡◌, ℕ, ◌+◌, ap, sym, ◌∙◌, refl, Bool, true, false, ◌||◌, Option, None, Some, Result, length, cond, arith, is_some, SyntaxKind, is_trivia, is_hash_expr, Forest, none, more, Tree, saturated, text_of, is_leaf, Tag, Rule, Ahead, Context, rule_of, Found, end, first_ahead, first_leaf, flat, found, holds_leaf, is_followed, name, next_kind, next_leaf, passed, past, step, tag, tag_here, tag_under, tree_of, within}
 use Rattle.std.specs.Result.{IfOk}
 use Rattle.std.proofs.lemmas.Result.{IfOk-weaker}
-use Rattle.typst_kinds.specs.declared.kind.SyntaxKind.{SyntaxKind}
-use Rattle.typst_kinds.specs.Kinds.{is_trivia, is_hash_expr}
-use Rattle.typst_tree.specs.Tree.{Forest, none, more, Tree, saturated, text_of}
-use Rattle.typst_tree.specs.Walks.{is_leaf}
-use Rattle.typst_highlight.specs.declared.tags.Tag.{Tag}
-use Rattle.typst_highlight.specs.declared.rules.Rule.{Rule}
 use Rattle.typst_highlight.specs.declared.rules.Rule.TheVariants as rule
-use Rattle.typst_highlight.specs.declared.context.Ahead.{Ahead}
-use Rattle.typst_highlight.specs.declared.context.Context.{Context}
-use Rattle.typst_highlight.specs.Rules.{rule_of}
-use Rattle.typst_highlight.specs.Walk.{Found, end, first_ahead, first_leaf, flat, found, holds_leaf, is_followed, name, next_kind, next_leaf, passed, past, step, tag, tag_here, tag_under, tree_of, within}
 use Rattle.typst_highlight.proofs.Cases.{bool_cases}
 
 -- a name whose next leaf is known needs nothing of what follows it

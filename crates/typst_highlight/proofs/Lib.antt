@@ -16,6 +16,7 @@ pub mod BeforeEdges
 pub mod Bounds
 pub mod Cases
 pub mod Chains
+pub mod Cited
 pub mod Contexts
 pub mod Escapes
 pub mod FirstLeaves

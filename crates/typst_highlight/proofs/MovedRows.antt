@@ -1,20 +1,7 @@
 -- Trees at another place, where what is round them is the same: they have the same tags.
-use Rattle.std.proofs.Common.{◌≡◌, ℕ, ◌+◌, ◌-◌, ◌^◌, ◌≤◌, ◌==◌, Bool, true, false, ◌&&◌, ◌||◌, ◌++◌, length, Option, None, Some, refl, ap, arith, cond, length-append}
-use Rattle.typst_kinds.specs.Head.{Head}
-use Rattle.typst_kinds.specs.declared.kind.SyntaxKind.{SyntaxKind}
+use Rattle.typst_highlight.proofs.Cited.{◌≡◌, ℕ, ◌+◌, ◌-◌, ◌^◌, ◌≤◌, ◌==◌, Bool, true, false, ◌&&◌, ◌||◌, ◌++◌, length, Option, None, Some, refl, ap, arith, cond, length-append, Head, SyntaxKind, is_leaf, Tag, Rule, Ahead, Context, Trail, first_tag, is_called, kind_ahead, rule_of, is_field_access, is_math_name, is_show_rule, is_colon, is_hash, around, behind_dot, end, first_ahead, first_leaf, found, lead, name, next_leaf, outer_around, outer_lead, passed, passed_row, past, step, tag, tag_here, tree_of, within, Outer, is_plain, begins_plain}
 use Rattle.typst_tree.specs.Tree.{Forest, none, more, Tree, joined, saturated, text_of}
-use Rattle.typst_tree.specs.Walks.{is_leaf}
-use Rattle.typst_highlight.specs.declared.tags.Tag.{Tag}
 use Rattle.typst_highlight.specs.declared.tags.Tag.TheVariants as tags
-use Rattle.typst_highlight.specs.declared.rules.Rule.{Rule}
-use Rattle.typst_highlight.specs.declared.context.Ahead.{Ahead}
-use Rattle.typst_highlight.specs.declared.context.Context.{Context}
-use Rattle.typst_highlight.specs.declared.context.Outer.{Outer}
-use Rattle.typst_highlight.specs.declared.context.Trail.{Trail}
-use Rattle.typst_highlight.specs.Edges.{is_plain, begins_plain}
-use Rattle.typst_highlight.specs.Names.{first_tag, is_called, kind_ahead}
-use Rattle.typst_highlight.specs.Rules.{rule_of, is_field_access, is_math_name, is_show_rule, is_colon, is_hash}
-use Rattle.typst_highlight.specs.Walk.{around, behind_dot, end, first_ahead, first_leaf, found, lead, name, next_leaf, outer_around, outer_lead, passed, passed_row, past, step, tag, tag_here, tree_of, within}
 use Rattle.typst_highlight.proofs.BeforeEdges.{IsEdge, IsPlain, first_plain, no_access, plain}
 use Rattle.typst_highlight.proofs.Cases.{bool_cases}
 

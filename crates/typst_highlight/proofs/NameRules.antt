@@ -1,9 +1,6 @@
 -- The rules of kinds, and the tags that walks keep of names.
-use Rattle.std.proofs.Common.{◌≡◌, true, false, Option, None, ap, sym, cond, arith}
-use Rattle.typst_kinds.specs.declared.kind.SyntaxKind.{SyntaxKind}
-use Rattle.typst_highlight.specs.declared.tags.Tag.{Tag}
+use Rattle.typst_highlight.proofs.Cited.{◌≡◌, true, false, Option, None, ap, sym, cond, arith, SyntaxKind, Tag, is_name, rule_of}
 use Rattle.typst_highlight.specs.declared.rules.Rule.TheVariants as rule
-use Rattle.typst_highlight.specs.Rules.{is_name, rule_of}
 
 -- the rules of names
 pub named_rule : (k : SyntaxKind) → rule_of k ≡ rule.Name → is_name k ≡ true

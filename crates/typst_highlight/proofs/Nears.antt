@@ -1,12 +1,5 @@
 -- What a walk finds doesn't depend on the leaf before the last one, unless the last one is a dot.
-use Rattle.std.proofs.Common.{◌≡◌, Bool, Option, refl, ap, cond, arith}
-use Rattle.typst_tree.specs.Tree.{Forest, none, more, Tree}
-use Rattle.typst_tree.specs.Walks.{is_leaf}
-use Rattle.typst_highlight.specs.declared.tags.Tag.{Tag}
-use Rattle.typst_highlight.specs.declared.rules.Rule.{Rule}
-use Rattle.typst_highlight.specs.declared.context.Trail.{Trail}
-use Rattle.typst_highlight.specs.declared.context.Context.{Context}
-use Rattle.typst_highlight.specs.Walk.{tree_of, within, past, passed, passed_row, name, step, behind_dot, tag_here, tag, found}
+use Rattle.typst_highlight.proofs.Cited.{◌≡◌, Bool, Option, refl, ap, cond, arith, Forest, none, more, Tree, is_leaf, Tag, Rule, Trail, Context, tree_of, within, past, passed, passed_row, name, step, behind_dot, tag_here, tag, found}
 
 -- the last leaves as far as tags depend on them
 pub record Alike (t u : Trail) : Type 0 where

@@ -1,18 +1,7 @@
 -- What a walk gives the nodes to: HTML that is written, and stretches that are added.
-use Rattle.std.proofs.Common.{◌≡◌, ℕ, ◌+◌, ◌-◌, ◌^◌, ◌≤◌, true, List, [], ◌∷◌, ◌++◌, Option, None, Some, length, refl, ap, sym, subst, ◌∙◌, arith, append_assoc, append-nil, length-append}
-use Rattle.std.specs.Prelude.{codes}
-use Rattle.typst_kinds.specs.Head.{Head}
+use Rattle.typst_highlight.proofs.Cited.{◌≡◌, ℕ, ◌+◌, ◌-◌, ◌^◌, ◌≤◌, true, List, [], ◌∷◌, ◌++◌, Option, None, Some, length, refl, ap, sym, subst, ◌∙◌, arith, append_assoc, append-nil, length-append, codes, Head, is_leaf, at, Tag, Context, first_tag, tag_of, escaped, spanned, span_start, span_end, html_of, tree_of, within, past, passed, tag, forest_html, node_html, walked_row, walked, html, Marks, tagger, root_context, stretch, row_stretches, stretches, AreJoined}
 use Rattle.typst_tree.specs.Tree.{Forest, none, more, Tree, count, joined, saturated, places, preorder, text_of}
-use Rattle.typst_tree.specs.Walks.{is_leaf}
-use Rattle.typst_tree.specs.Steps.{at}
-use Rattle.typst_highlight.specs.declared.tags.Tag.{Tag}
-use Rattle.typst_highlight.specs.declared.context.Context.{Context}
 use Rattle.typst_highlight.specs.declared.stretches.Tagged.{Tagged}
-use Rattle.typst_highlight.specs.Names.{first_tag}
-use Rattle.typst_highlight.specs.Nodes.{tag_of}
-use Rattle.typst_highlight.specs.Html.{escaped, spanned, span_start, span_end, html_of}
-use Rattle.typst_highlight.specs.Stretches.{stretch, row_stretches, stretches, AreJoined}
-use Rattle.typst_highlight.specs.Walk.{tree_of, within, past, passed, tag, forest_html, node_html, walked_row, walked, html, Marks, tagger, root_context}
 use Rattle.typst_highlight.proofs.Cases.{bool_cases}
 use Rattle.typst_highlight.proofs.Rows.{Stand, below, behind, alone}
 use Rattle.typst_highlight.proofs.Contexts.{Fits, fits_below, fits_behind, fits_root, passed_here}

@@ -1,14 +1,7 @@
 -- What is put on a page.
-use Rattle.std.proofs.Common.{rules, ◌≡◌, ℕ, zero, suc, ◌+◌, ◌<◌, ◌≤◌, List, [], ◌∷◌, ◌++◌, Option, None, Some, length, take, drop, ap, refl, sym, subst, ◌∙◌, arith, get_or, append_assoc, length-append, take-suc-set}
-use Rattle.std.specs.Prelude.{codes, slice_set}
-use Rattle.std.specs.Str.{IsUtf8}
-use Rattle.std.proofs.lemmas.Str.{IsUtf8-nil, IsUtf8-append, IsUtf8-from_ascii}
+use Rattle.typst_highlight.proofs.Cited.{rules, ◌≡◌, ℕ, zero, suc, ◌+◌, ◌<◌, ◌≤◌, List, [], ◌∷◌, ◌++◌, Option, None, Some, length, take, drop, ap, refl, sym, subst, ◌∙◌, arith, get_or, append_assoc, length-append, take-suc-set, codes, slice_set, length-take-le, take-append-drop, take-append-le, take_more, Tag, opening, span_start, span_end, IsUtf8, IsUtf8-nil, IsUtf8-append, IsUtf8-from_ascii, take-append-add}
 use Rattle.std.proofs.lemmas.Str.Ascii.{IsAscii-from_all}
-use Rattle.std.proofs.lemmas.List.{length-take-le, take-append-drop, take-append-le, take_more}
-use Rattle.std.proofs.Math.Seq.{take-append-add}
-use Rattle.typst_highlight.specs.declared.tags.Tag.{Tag}
 use Rattle.typst_highlight.specs.declared.tags.Tag.TheVariants as tag
-use Rattle.typst_highlight.specs.Html.{opening, span_start, span_end}
 
 -- the first n bytes of what was put on a page
 pub part_put : (page old block : List ℕ) (a n end : ℕ) → end ≡ a + length block → n ≤ length block → a ≤ length old → take end page ≡ take a old ++ block → take (a + n) page ≡ take a old ++ take n block

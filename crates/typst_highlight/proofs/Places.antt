@@ -1,14 +1,6 @@
 -- The leaf whose tag a hash has: the first one of trees, where those that hold no leaf are passed over.
-use Rattle.std.proofs.Common.{◌≡◌, ℕ, ◌+◌, ◌*◌, Bool, true, false, ◌||◌, Option, None, Some, refl, ap, sym, ◌∙◌, cond, arith}
-use Rattle.std.specs.Option.{is_some}
-use Rattle.typst_tree.specs.Tree.{Forest, none, more, Tree, forest, count}
-use Rattle.typst_tree.specs.Walks.{is_leaf}
-use Rattle.typst_highlight.specs.declared.tags.Tag.{Tag}
-use Rattle.typst_highlight.specs.declared.rules.Rule.{Rule}
+use Rattle.typst_highlight.proofs.Cited.{◌≡◌, ℕ, ◌+◌, ◌*◌, Bool, true, false, ◌||◌, Option, None, Some, refl, ap, sym, ◌∙◌, cond, arith, is_some, Forest, none, more, Tree, forest, count, is_leaf, Tag, Rule, Context, found, holds_leaf, if_found, own, passed, passed_row, past, step, tag, tag_here, tree_of, within, Row}
 use Rattle.typst_highlight.specs.declared.rules.Rule.TheVariants as rule
-use Rattle.typst_highlight.specs.declared.context.Context.{Context}
-use Rattle.typst_highlight.specs.declared.walk.Row.{Row}
-use Rattle.typst_highlight.specs.Walk.{found, holds_leaf, if_found, own, passed, passed_row, past, step, tag, tag_here, tree_of, within}
 
 neither : (x y : Option (Option Tag)) → if_found x y ≡ None → (x ≡ None) × (y ≡ None)
 neither x y e = grind arith

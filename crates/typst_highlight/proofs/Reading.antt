@@ -1,11 +1,6 @@
 -- A reader of the HTML of a tree sees its text.
-use Rattle.std.proofs.Common.{◌≡◌, ℕ, ◌+◌, List, [], ◌∷◌, ◌++◌, Option, refl, ap, sym, subst, ◌∙◌, arith, append_assoc, append-nil}
-use Rattle.std.specs.Prelude.{codes}
+use Rattle.typst_highlight.proofs.Cited.{◌≡◌, ℕ, ◌+◌, List, [], ◌∷◌, ◌++◌, Option, refl, ap, sym, subst, ◌∙◌, arith, append_assoc, append-nil, codes, at, Tag, tag_of, escaped_byte, escaped, spanned, span_start, span_end, row_html, html_of, plain, read}
 use Rattle.typst_tree.specs.Tree.{Forest, none, more, Tree, count, joined, text_of}
-use Rattle.typst_tree.specs.Steps.{at}
-use Rattle.typst_highlight.specs.declared.tags.Tag.{Tag}
-use Rattle.typst_highlight.specs.Nodes.{tag_of}
-use Rattle.typst_highlight.specs.Html.{escaped_byte, escaped, spanned, span_start, span_end, row_html, html_of, plain, read}
 
 -- in HTML that begins with xs, a reader sees s first, and stands in text behind it
 record Reads (xs s : List ℕ) : Type 0 where

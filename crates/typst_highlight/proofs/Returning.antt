@@ -1,24 +1,10 @@
 -- What is left of a walk, step by step.
-use Rattle.std.proofs.Common.{◌≡◌, ℕ, ◌+◌, ◌*◌, ◌<◌, ◌&&◌, false, List, [], ◌∷◌, ◌++◌, Option, Some, length, take, get_or, ap, sym, ◌∙◌, arith}
-use Rattle.std.specs.Prelude.{reverse}
-use Rattle.std.proofs.lemmas.List.{reverse-append, take_more}
-use Rattle.typst_tree.specs.Tree.{Forest, none, more, Tree, forest, count, saturated}
-use Rattle.typst_tree.specs.Walks.{is_childless, is_leaf}
-use Rattle.typst_highlight.specs.declared.tags.Tag.{Tag}
+use Rattle.typst_highlight.proofs.Cited.{◌≡◌, ℕ, ◌+◌, ◌*◌, ◌<◌, ◌&&◌, false, List, [], ◌∷◌, ◌++◌, Option, Some, length, ap, ◌∙◌, arith, reverse, reverse-append, Forest, none, more, Tree, forest, count, saturated, is_childless, is_leaf, Tag, spanned, Outlet, ahead_of, end, first_ahead, first_leaf, joined, left, next_leaf, outer_within, passed, passed_row, past, returned, returns, root_context, steps, tag, waiting, walked, walked_row, within, Waiting, Row}
 use Rattle.typst_highlight.specs.declared.progress.Progress.{Progress}
-use Rattle.typst_highlight.specs.declared.progress.Waiting.{Waiting}
-use Rattle.typst_highlight.specs.declared.walk.Row.{Row}
-use Rattle.typst_highlight.specs.Html.{spanned}
-use Rattle.typst_highlight.specs.Walk.{Outlet, ahead_of, end, first_ahead, first_leaf, joined, left, next_leaf, outer_within, passed, passed_row, past, returned, returns, root_context, steps, tag, waiting, walked, walked_row, within}
 
 -- the last of a list comes first in the reversed one
 pub turned : {A : Type 0} (xs ys : List A) (x : A) → xs ≡ ys ++ (x ∷ []) → reverse xs ≡ x ∷ reverse ys
 turned xs ys x e = ap reverse e ∙ reverse-append ys (x ∷ [])
-
--- the first leaf of the nodes that a walk comes back to, with one row more
-pub ahead_step : (ws : List Waiting) (i : ℕ) (w : Waiting) → i < length ws → w ≡ get_or ws i w → ahead_of (reverse (take (i + 1) ws)) ≡ first_ahead (first_leaf w.level.parent w.start (forest w.nodes.now)) (ahead_of (reverse (take i ws)))
-ahead_step ws i w l e =
-    ap ahead_of (turned (take (i + 1) ws) (take i ws) w (take_more ws i w l ∙ ap (λ v. take i ws ++ v ∷ []) (sym e)))
 
 -- what is round a node's children, where what follows the node waits
 pub entered : (p q : Progress) (w : Waiting) (t : Tree) (r : Forest) → q.level.parent ≡ Some t.head.kind → q.level.outer ≡ outer_within (joined p) t.head.kind → q.offset ≡ saturated (p.offset + length t.head.text) → q.trail ≡ p.trail → waiting q ≡ w ∷ waiting p → forest w.nodes.now ≡ r → w.start ≡ end (joined p) t → w.level.parent ≡ p.level.parent → joined q ≡ within (joined p) t r

@@ -1,17 +1,6 @@
 -- Where trees that stand side by side are in the tree's nodes in preorder.
-use Rattle.std.proofs.Common.{◌≡◌, ℕ, ◌+◌, ◌<◌, ◌≤◌, ◌==◌, Bool, true, false, ◌&&◌, not, List, [], ◌∷◌, ◌++◌, length, map, Option, None, Some, refl, ap, ◌∙◌, arith, cond, append_assoc, append-nil, length-append}
-use Rattle.std.specs.Prelude.{nat_lt, find, option_and_then, slice_get, unwrap_or}
-use Rattle.std.specs.Option.{option_map}
-use Rattle.std.proofs.Math.Seq.{take-append_seam}
-use Rattle.std.proofs.lemmas.Bool.Decides.{nat_tests}
-use Rattle.typst_kinds.specs.Kinds.{is_trivia}
-use Rattle.typst_kinds.specs.Head.{Head}
-use Rattle.typst_tree.specs.Tree.{Forest, none, more, Tree, count, places, preorder, saturated}
-use Rattle.typst_tree.specs.Walks.{texts, numbers, first_at, if_none, has_child}
-use Rattle.typst_tree.specs.Steps.{At, at, node_of, kind_of, start_of, parent, children, is_sibling_after, next_sibling}
-use Rattle.typst_tree.proofs.WalksInPreorder.{length_places, first_append}
+use Rattle.typst_highlight.proofs.Cited.{◌≡◌, ℕ, ◌+◌, ◌<◌, ◌≤◌, ◌==◌, Bool, true, false, ◌&&◌, not, List, [], ◌∷◌, ◌++◌, length, map, Option, None, Some, refl, ap, ◌∙◌, arith, cond, append_assoc, append-nil, length-append, nat_lt, find, option_and_then, slice_get, unwrap_or, option_map, nat_tests, is_trivia, Head, Forest, none, more, Tree, count, places, preorder, saturated, texts, numbers, first_at, if_none, has_child, At, at, node_of, kind_of, start_of, parent, children, is_sibling_after, next_sibling, length_places, first_append, tree_of, next_kind, take-append_seam}
 use Rattle.typst_tree.proofs.PassesOver.{no_child_before, no_child_after}
-use Rattle.typst_highlight.specs.Walk.{tree_of, next_kind}
 use Rattle.typst_highlight.proofs.Bounds.{member, member_from, member_until, not_before}
 
 -- the next sibling of the node j under a parent

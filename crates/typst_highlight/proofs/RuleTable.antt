@@ -1,10 +1,6 @@
 -- The table of rules has the rule of each kind at its place.
-use Rattle.std.proofs.Common.{◌≡◌, ℕ, ap, ◌∙◌, slice_index_or, arith}
-use Rattle.typst_kinds.specs.declared.kind.SyntaxKind.{SyntaxKind}
-use Rattle.typst_kinds.specs.Members.{place_of}
-use Rattle.typst_highlight.specs.declared.rules.Rule.{Rule}
+use Rattle.typst_highlight.proofs.Cited.{◌≡◌, ℕ, ap, ◌∙◌, slice_index_or, arith, SyntaxKind, Rule, rule_of, place_of}
 use Rattle.typst_highlight.specs.declared.rules.TheConstants.{RULES}
-use Rattle.typst_highlight.specs.Rules.{rule_of}
 
 pub rule_at : (x : Rule) (k : SyntaxKind) → slice_index_or RULES.now (place_of k) x ≡ rule_of k
 unfolding place_of

@@ -1,13 +1,6 @@
 -- The walk lists the tags of the spans that the tree's nodes stand in.
-use Rattle.std.proofs.Common.{◌≡◌, ℕ, zero, suc, ◌+◌, true, List, [], ◌∷◌, ◌++◌, map, Option, None, Some, refl, ap, sym, ◌∙◌, arith, append_assoc, append-nil}
-use Rattle.typst_kinds.specs.Head.{Head}
-use Rattle.typst_tree.specs.Tree.{Forest, none, more, Tree, count, nodes, places, preorder}
-use Rattle.typst_tree.specs.Walks.{is_leaf}
-use Rattle.typst_highlight.specs.declared.tags.Tag.{Tag}
-use Rattle.typst_highlight.specs.declared.context.Context.{Context}
-use Rattle.typst_highlight.specs.Html.{spanned}
+use Rattle.typst_highlight.proofs.Cited.{◌≡◌, ℕ, zero, suc, ◌+◌, true, List, [], ◌∷◌, ◌++◌, map, Option, None, Some, refl, ap, sym, ◌∙◌, arith, append_assoc, append-nil, Head, Forest, none, more, Tree, count, nodes, places, preorder, is_leaf, Tag, Context, spanned, tree_of, within, past, passed, tag, walked_row, walked, lister, root_context}
 use Rattle.typst_highlight.specs.Spans.{numbers_from, span_at, spans}
-use Rattle.typst_highlight.specs.Walk.{tree_of, within, past, passed, tag, walked_row, walked, lister, root_context}
 use Rattle.typst_highlight.proofs.Cases.{bool_cases}
 use Rattle.typst_highlight.proofs.Rows.{Stand, below, behind, alone}
 use Rattle.typst_highlight.proofs.Contexts.{Fits, fits_below, fits_behind, fits_root, passed_here}

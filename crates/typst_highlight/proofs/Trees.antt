@@ -1,20 +1,6 @@
 -- The tags and the HTML that a walk makes are those of the tree.
-use Rattle.std.proofs.Common.{◌≡◌, ℕ, suc, zero, ◌+◌, ◌<◌, ◌≤◌, true, false, List, [], ◌∷◌, ◌++◌, length, Option, None, Some, refl, ap, sym, ◌∙◌, arith, cond, append_assoc, append-nil, length-append}
-use Rattle.std.specs.Prelude.{option_and_then, codes}
-use Rattle.std.specs.Option.{option_map}
-use Rattle.typst_kinds.specs.Head.{Head}
-use Rattle.typst_tree.specs.Tree.{Forest, none, more, Tree, count, nodes, places, preorder}
-use Rattle.typst_tree.specs.Walks.{first_at, if_none, is_leaf, is_leaf_from, numbers}
-use Rattle.typst_tree.specs.Steps.{at, kind_of, start_of, parent, next_sibling, leftmost_leaf}
-use Rattle.typst_tree.proofs.WalksInPreorder.{length_places, first_append}
-use Rattle.typst_highlight.specs.declared.tags.Tag.{Tag}
-use Rattle.typst_highlight.specs.declared.rules.Rule.{Rule}
+use Rattle.typst_highlight.proofs.Cited.{◌≡◌, ℕ, suc, zero, ◌+◌, ◌<◌, ◌≤◌, true, false, List, [], ◌∷◌, ◌++◌, length, Option, None, Some, refl, ap, sym, ◌∙◌, arith, cond, append_assoc, append-nil, length-append, option_and_then, codes, option_map, Head, Forest, none, more, Tree, count, nodes, places, preorder, first_at, if_none, is_leaf, is_leaf_from, numbers, at, kind_of, start_of, parent, next_sibling, leftmost_leaf, length_places, first_append, Tag, Rule, Context, rule_of, paren_tag, star_tag, underscore_tag, slash_tag, equals_tag, term_tag, kind_if, leaf_of, expression_leaf, tag_by, tag_within, tag_of, spanned, row_html, html_of, tree_of, within, past, passed, next_kind, tag_here, flat, found, tag, forest_html, node_html}
 use Rattle.typst_highlight.specs.declared.rules.Rule.TheVariants as rule
-use Rattle.typst_highlight.specs.declared.context.Context.{Context}
-use Rattle.typst_highlight.specs.Rules.{rule_of, paren_tag, star_tag, underscore_tag, slash_tag, equals_tag, term_tag}
-use Rattle.typst_highlight.specs.Nodes.{kind_if, leaf_of, expression_leaf, tag_by, tag_within, tag_of}
-use Rattle.typst_highlight.specs.Html.{spanned, row_html, html_of}
-use Rattle.typst_highlight.specs.Walk.{tree_of, within, past, passed, next_kind, tag_here, flat, found, tag, forest_html, node_html}
 use Rattle.typst_highlight.proofs.Cases.{bool_cases}
 use Rattle.typst_highlight.proofs.Rows.{Stand, sibling_among, here, below, behind, alone, parent_here, sibling_here, sibling_cases, sibling_kind, at_later}
 use Rattle.typst_highlight.proofs.Leaves.{any_leaf, any_offset, all_from}

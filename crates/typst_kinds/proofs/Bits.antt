@@ -1,9 +1,5 @@
 -- The bits of a row of words, and what sets and clears them.
-use Rattle.std.proofs.Common.{◌≡◌, ◌≢◌, ℕ, ◌-◌, ◌*◌, ◌/◌, ◌%◌, ◌^◌, ◌<◌, List, length, refl, arith, get_or, set, get_or-set_same, get_or-set_other, bit_or, bit_and, w64, inl, inr}
-use Rattle.std.proofs.lemmas.Bool.{cases_eq}
-use Rattle.std.proofs.lemmas.Nat.{div-add-mod'}
-use Rattle.std.proofs.lemmas.Nat.Bits.{bit_at_set_same, bit_at_set_other, bit_at_clear_same, bit_at_clear_other}
-use Rattle.typst_kinds.specs.Members.{bit_of}
+use Rattle.typst_kinds.proofs.Cited.{◌≡◌, ◌≢◌, ℕ, ◌-◌, ◌*◌, ◌/◌, ◌%◌, ◌^◌, ◌<◌, List, length, refl, arith, get_or, set, get_or-set_same, get_or-set_other, bit_or, bit_and, w64, inl, inr, cases_eq, div-add-mod', bit_at_set_same, bit_at_set_other, bit_at_clear_same, bit_at_clear_other, bit_of}
 
 -- a row of words with one bit more
 abbrev pub with_bit : List ℕ → ℕ → List ℕ

@@ -1,7 +1,6 @@
 -- The last element of a list.
-use Rattle.std.proofs.Common.{◌≡◌, ℕ, zero, suc, List, [], ◌∷◌, length, get_or, ap, arith}
+use Rattle.typst_kinds.proofs.Cited.{◌≡◌, ℕ, zero, suc, List, [], ◌∷◌, length, get_or, ap, arith, at_last}
 use Rattle.std.proofs.Math.ListN.{set}
-use Rattle.typst_kinds.specs.Diagnostic.{at_last}
 
 -- what is set at the last place
 pub at_last-set : {X : Type 0} (f : X → X) (xs : List X) (i : ℕ) (x : X) → length xs ≡ suc i → x ≡ get_or xs i x → set xs i (f x) ≡ at_last f xs

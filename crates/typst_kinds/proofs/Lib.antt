@@ -8,6 +8,7 @@
 -- Places: which kind has a place.
 -- All other clauses need no lemma.
 mod Bits
+pub mod Cited
 pub mod Membership
 pub mod NamedSets
 pub mod Places

@@ -1,10 +1,5 @@
 -- What a set contains after its bits were changed.
-use Rattle.std.proofs.Common.{arith, lit<, zero, suc, max, bit_or, get_or, ◌≡◌, ◌≢◌, ℕ, ◌/◌, ◌%◌, ◌<◌, ◌==◌, ◌||◌, true, false, List, [], ◌∷◌, length, refl, ap, eq-eqb}
-use Rattle.std.proofs.lemmas.Nat.Bits.{bit_at_or, bit_at-lt}
-use Rattle.std.specs.Int.{bit_at}
-use Rattle.typst_kinds.specs.Members.{has, place_of}
-use Rattle.typst_kinds.specs.declared.kind.SyntaxKind.{SyntaxKind}
-use Rattle.typst_kinds.specs.declared.kind.SyntaxKind.TheVariants as kind
+use Rattle.typst_kinds.proofs.Cited.{arith, max, bit_or, get_or, ◌≡◌, ◌≢◌, ℕ, ◌/◌, ◌%◌, ◌<◌, ◌==◌, ◌||◌, true, false, List, [], ◌∷◌, length, ap, eq-eqb, bit_at_or, bit_at-lt, bit_at, has, place_of, SyntaxKind}
 use Rattle.typst_kinds.proofs.Sameness.{same-is}
 use Rattle.typst_kinds.proofs.Bits.{with_bit, without_bit, with_bit_same, without_bit_same, with_bit_other, without_bit_other}
 
@@ -32,18 +27,11 @@ removed_other ws k lt other ne = ap (λ n. n == 1) (without_bit_other ws (place_
 -- the set of no words set has no kind
 pub empty : (k : SyntaxKind) → has (record { words = 0 ∷ 0 ∷ 0 ∷ [] }) k ≡ false
 unfolding has place_of
-empty kind.End = refl
-empty _ = refl
+empty k = grind arith
 
 -- the greater of two bits is 1 where one of them is
 max_one : (m n : ℕ) → m < 2 → n < 2 → (max m n == 1) ≡ ((m == 1) || (n == 1))
-max_one zero zero p q = refl
-max_one zero (suc zero) p q = refl
-max_one zero (suc (suc n)) p q = absurd (omega (arith, q))
-max_one (suc zero) zero p q = refl
-max_one (suc zero) (suc zero) p q = refl
-max_one (suc zero) (suc (suc n)) p q = absurd (omega (arith, q))
-max_one (suc (suc m)) n p q = absurd (omega (arith, p))
+max_one m n p q = grind arith
 
 either_bit : (a b i : ℕ) → (bit_at (bit_or a b) i == 1) ≡ ((bit_at a i == 1) || (bit_at b i == 1))
 either_bit a b i = rw bit_at_or (max_one (bit_at a i) (bit_at b i) (bit_at-lt a i) (bit_at-lt b i))
@@ -54,15 +42,11 @@ joined_words xs ys =
     bit_or (get_or xs 0 0) (get_or ys 0 0) ∷ bit_or (get_or xs 1 0) (get_or ys 1 0) ∷ bit_or (get_or xs 2 0) (get_or ys 2 0) ∷ []
 
 joined_word : (xs ys : List ℕ) (i : ℕ) → i < 3 → get_or (joined_words xs ys) i 0 ≡ bit_or (get_or xs i 0) (get_or ys i 0)
-joined_word xs ys zero lt = refl
-joined_word xs ys (suc zero) lt = refl
-joined_word xs ys (suc (suc zero)) lt = refl
-joined_word xs ys (suc (suc (suc i))) lt = absurd (omega (arith, lt))
+joined_word xs ys i lt = grind arith
 
 third : (k : SyntaxKind) → place_of k / 64 < 3
 unfolding place_of
-third kind.End = lit< tt
-third _ = lit< tt
+third k = grind arith
 
 pub united : (xs ys : List ℕ) (k : SyntaxKind) → has (record { words = joined_words xs ys }) k ≡ (has (record { words = xs }) k || has (record { words = ys }) k)
 unfolding has

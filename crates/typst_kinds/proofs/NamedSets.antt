@@ -1,31 +1,24 @@
 -- What each named set holds.
-use Rattle.std.proofs.Common.{◌≡◌, refl}
-use Rattle.typst_kinds.specs.Kinds.{among}
-use Rattle.typst_kinds.specs.Members.{has, place_of}
+use Rattle.typst_kinds.proofs.Cited.{◌≡◌, refl, arith, among, has, place_of, SyntaxKind}
 use Rattle.typst_kinds.specs.Sets.{stmt, math_expr, unary_op, binary_op, pattern_leaf, code_expr, pattern, arg, array_or_dict_item, param, destructuring_item}
 use Rattle.typst_kinds.specs.declared.set.TheConstants.{STMT, MATH_EXPR, UNARY_OP, BINARY_OP, PATTERN_LEAF, CODE_EXPR, PATTERN, ARG, ARRAY_OR_DICT_ITEM, PARAM, DESTRUCTURING_ITEM}
-use Rattle.typst_kinds.specs.declared.kind.SyntaxKind.{SyntaxKind}
 use Rattle.typst_kinds.specs.declared.kind.SyntaxKind.TheVariants as kind
 
 pub has_stmt : (k : SyntaxKind) → has STMT k ≡ among stmt k
 unfolding has place_of
-has_stmt kind.End = refl
-has_stmt _ = refl
+has_stmt k = grind arith
 
 pub has_math_expr : (k : SyntaxKind) → has MATH_EXPR k ≡ among math_expr k
 unfolding has place_of
-has_math_expr kind.End = refl
-has_math_expr _ = refl
+has_math_expr k = grind arith
 
 pub has_unary_op : (k : SyntaxKind) → has UNARY_OP k ≡ among unary_op k
 unfolding has place_of
-has_unary_op kind.End = refl
-has_unary_op _ = refl
+has_unary_op k = grind arith
 
 pub has_binary_op : (k : SyntaxKind) → has BINARY_OP k ≡ among binary_op k
 unfolding has place_of
-has_binary_op kind.End = refl
-has_binary_op _ = refl
+has_binary_op k = grind arith
 
 pub has_pattern_leaf : (k : SyntaxKind) → has PATTERN_LEAF k ≡ among pattern_leaf k
 unfolding has place_of

@@ -1,14 +1,9 @@
 -- Each kind has its row at its place, and each place below the number of kinds is that of a kind.
-use Rattle.std.proofs.Common.{◌≡◌, ℕ, zero, suc, ◌+◌, ◌<◌, ◌≤◌, List, [], ◌∷◌, length, map, get_or, Option, None, Some, refl, ap, sym, ◌∙◌, arith, zero-add, lit<}
-use Rattle.std.proofs.Math.ListN.{get_or-map}
+use Rattle.typst_kinds.proofs.Cited.{◌≡◌, ℕ, zero, suc, ◌+◌, ◌<◌, ◌≤◌, List, [], ◌∷◌, length, map, get_or, Option, None, Some, refl, ap, sym, ◌∙◌, arith, zero-add, get_or-map, same_Some, none-some, slice_get-map, slice_get_within, option_copied, option_map, slice_get, place_of, SyntaxKind}
 use Rattle.std.proofs.lemmas.List.FromFn.{get_or-range_with_len}
-use Rattle.std.proofs.lemmas.Option.{same_Some, none-some, slice_get-map, slice_get_within}
 use Rattle.std.specs.Borrow.{Bor}
 use Rattle.std.specs.List.{range_with_len}
-use Rattle.std.specs.Prelude.{option_copied, option_map, slice_get}
 use Rattle.std.specs.Slice.{IsItemAt}
-use Rattle.typst_kinds.specs.Members.{place_of}
-use Rattle.typst_kinds.specs.declared.kind.SyntaxKind.{SyntaxKind}
 use Rattle.typst_kinds.specs.declared.kind.SyntaxKind.TheVariants as kind
 use Rattle.typst_kinds.specs.declared.kind.TheConstants.{ROWS}
 
@@ -29,8 +24,7 @@ get_none (x ∷ xs) (suc n) h = get_none xs n (omega (arith, h))
 
 -- what `get` lends, if it lends something
 pub got : {A : Type 0} (xs : List A) (n : ℕ) (r : Option (Bor A)) → IsItemAt xs n r → option_copied r ≡ slice_get xs n
-got xs n None h = sym (get_none xs n h.3)
-got xs n (Some x) h = ap (λ y. Some y) h.1 ∙ sym (get_some xs n x.now h.3.0)
+got xs n r h = grind (arith, get_none, get_some)
 
 -- elements whose numbers rise one by one
 pub numbered : {A : Type 0} (f : A → ℕ) (xs : List A) (a count n : ℕ) (x : A) → map f xs ≡ range_with_len a count → length xs ≡ count → slice_get xs n ≡ Some x → f x ≡ a + n
@@ -55,16 +49,11 @@ all_kinds = refl
 
 pub kind_here : (k : SyntaxKind) → slice_get kinds (place_of k) ≡ Some k
 unfolding kinds place_of
-kind_here kind.End = refl
-kind_here _ = refl
+kind_here k = grind arith
 
 -- the first part of the row that `get` lends, if it lends one
 pub lent : {A B : Type 0} (rows : List (A × B)) (n : ℕ) (row : Option (Bor (A × B))) (firsts : List A) → IsItemAt rows n row → map (λ r. r.0) rows ≡ firsts → option_map (λ r. r.now.0) row ≡ slice_get firsts n
-lent rows n row firsts h e = alike row ∙ (ap (option_map (λ r. r.0)) (got rows n row h) ∙ (sym (slice_get-map (λ r. r.0) rows n) ∙ ap (λ xs. slice_get xs n) e))
-  where
-    alike : {A B : Type 0} (row : Option (Bor (A × B))) → option_map (λ r. r.now.0) row ≡ option_map (λ r. r.0) (option_copied row)
-    alike None = refl
-    alike (Some row) = refl
+lent rows n row firsts h e = grind (arith, got, slice_get-map)
 
 pub kind_there : (n : ℕ) (k : SyntaxKind) → slice_get kinds n ≡ Some k → place_of k ≡ n
 kind_there n k e = numbered place_of kinds 0 137 n k kinds_rise all_kinds e ∙ zero-add n
@@ -82,5 +71,4 @@ kind_with n l =
 
 pub placed : (k : SyntaxKind) → place_of k < 137
 unfolding place_of
-placed kind.End = lit< tt
-placed _ = lit< tt
+placed k = grind arith

@@ -1,12 +1,5 @@
 -- Two sets have the same kinds exactly where they have the same words, except the bits of the last word that stand for no kind.
-use Rattle.std.proofs.Common.{◌≡◌, ℕ, ◌+◌, ◌*◌, ◌/◌, ◌%◌, ◌^◌, ◌<◌, ◌==◌, ◌↔◌, Bool, List, [], ◌∷◌, true, zero, suc, get_or, refl, sym, subst, ◌∙◌, ap, arith, lit<}
-use Rattle.std.proofs.lemmas.Bool.Decides.{nat_tests}
-use Rattle.std.proofs.lemmas.Nat.{div-add-mod'}
-use Rattle.std.proofs.lemmas.Nat.Bits.{bit_at-lt, bit_at_cat_low, same_from_bits_below}
-use Rattle.std.specs.Cmp.Lexicographic.{bytes_decides}
-use Rattle.std.specs.Int.{bit_at}
-use Rattle.typst_kinds.specs.Members.{bit_of, has, kind_words, place_of, same_kinds}
-use Rattle.typst_kinds.specs.declared.kind.SyntaxKind.{SyntaxKind}
+use Rattle.typst_kinds.proofs.Cited.{◌≡◌, ℕ, ◌+◌, ◌*◌, ◌/◌, ◌%◌, ◌^◌, ◌<◌, ◌==◌, ◌↔◌, Bool, List, [], ◌∷◌, true, get_or, refl, sym, ◌∙◌, ap, arith, lit<, div-add-mod', bit_at_cat_low, same_from_bits_below, bytes_decides, bit_at, bit_of, has, kind_words, place_of, same_kinds, SyntaxKind}
 use Rattle.typst_kinds.specs.declared.set.SyntaxSet.{SyntaxSet}
 use Rattle.typst_kinds.proofs.Places.{placed, kind_with}
 
@@ -14,18 +7,11 @@ use Rattle.typst_kinds.proofs.Places.{placed, kind_with}
 low_bit : (n i : ℕ) → i < 9 → bit_at n i ≡ bit_at (n % 2 ^ 9) i
 low_bit n i lt = ap (λ m. bit_at m i) (sym (div-add-mod' n (2 ^ 9))) ∙ bit_at_cat_low (n / 2 ^ 9) 9 (n % 2 ^ 9) i lt
 
--- two bits are the same where both are 1 or neither is
-same_bit : (m n : ℕ) → m < 2 → n < 2 → (m == 1) ≡ (n == 1) → m ≡ n
-same_bit m n p q e = grind (arith, nat_tests)
-
 -- two rows of three words that have the same words, except what stands for no kind in the last
 module _ (xs ys : List ℕ) (first : get_or xs 0 0 ≡ get_or ys 0 0) (second : get_or xs 1 0 ≡ get_or ys 1 0) (third : get_or xs 2 0 % 2 ^ 9 ≡ get_or ys 2 0 % 2 ^ 9) where
   -- they have the same bits of each kind, by word and bit of the word
   bit_within : (w i : ℕ) → w * 64 + i < 137 → bit_at (get_or xs w 0) i ≡ bit_at (get_or ys w 0) i
-  bit_within zero i lt = ap (λ n. bit_at n i) first
-  bit_within (suc zero) i lt = ap (λ n. bit_at n i) second
-  bit_within (suc (suc zero)) i lt = low_bit _ i (omega arith) ∙ ap (λ n. bit_at n i) third ∙ sym (low_bit _ i (omega arith))
-  bit_within (suc (suc (suc w))) i lt = absurd (omega (arith, lt))
+  bit_within w i lt = grind (arith, low_bit)
 
   same_bits : (p : ℕ) → p < 137 → bit_of xs p ≡ bit_of ys p
   same_bits p lt = bit_within (p / 64) (p % 64) (omega (arith, lt, div-add-mod' p 64))
@@ -34,10 +20,7 @@ module _ (xs ys : List ℕ) (first : get_or xs 0 0 ≡ get_or ys 0 0) (second : 
 module _ (xs ys : List ℕ) (same : (p : ℕ) → p < 137 → bit_of xs p ≡ bit_of ys p) where
   -- their words have the same bits
   bit_from : (w i : ℕ) → i < 64 → w * 64 + i < 137 → bit_at (get_or xs w 0) i ≡ bit_at (get_or ys w 0) i
-  bit_from w i lt within =
-      let word : (w * 64 + i) / 64 ≡ w = omega (arith, div-add-mod' (w * 64 + i) 64) in
-      let bit : (w * 64 + i) % 64 ≡ i = omega (arith, div-add-mod' (w * 64 + i) 64) in
-      rw (word, bit) at (same (w * 64 + i) within)
+  bit_from w i lt within = let word : (w * 64 + i) / 64 ≡ w = omega (arith, div-add-mod' (w * 64 + i) 64) in grind arith
 
   word_from : (w : ℕ) → w < 2 → get_or xs w 0 < 2 ^ 64 → get_or ys w 0 < 2 ^ 64 → get_or xs w 0 ≡ get_or ys w 0
   word_from w lt p q = same_from_bits_below 64 _ _ p q (λ i below. bit_from w i below (omega (arith, lt, below)))
@@ -56,10 +39,7 @@ same_kinds-has a b e k =
 -- sets that have the same kinds have the same bits of each kind
 bits_from : (a b : SyntaxSet) → ((k : SyntaxKind) → has a k ≡ has b k) → (p : ℕ) → p < 137 → bit_of a.words p ≡ bit_of b.words p
 unfolding has
-bits_from a b same p lt =
-    let P : ℕ → Type 0 = λ place. bit_of a.words place ≡ bit_of b.words place in
-    let found = kind_with p lt in
-    subst P found.1 (same_bit _ _ (bit_at-lt _ _) (bit_at-lt _ _) (same found.0))
+bits_from a b same p lt = let P : ℕ → Type 0 = λ place. bit_of a.words place ≡ bit_of b.words place in grind (arith, kind_with p lt)
 
 three_words : (x y z u v w : ℕ) → x ≡ u → y ≡ v → z ≡ w → ◌≡◌ {A = List ℕ} (x ∷ y ∷ z ∷ []) (u ∷ v ∷ w ∷ [])
 three_words x y z u v w e f g = rw (e, f, g) refl

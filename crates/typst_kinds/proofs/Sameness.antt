@@ -1,9 +1,7 @@
 -- What `same` says of two kinds.
-use Rattle.std.proofs.Common.{rules, ◌≡◌, true}
+use Rattle.typst_kinds.proofs.Cited.{rules, ◌≡◌, true, same, SyntaxKind}
 use denote.Enum.Bare.{same_true, true_same}
-use Rattle.typst_kinds.specs.Kinds.{same}
 use Rattle.typst_kinds.specs.contracts.kind.SyntaxKind.{the_type}
-use Rattle.typst_kinds.specs.declared.kind.SyntaxKind.{SyntaxKind}
 
 pub same-is : (wanted kind : SyntaxKind) → same wanted kind ≡ true → kind ≡ wanted
 same-is wanted kind h = same_true the_type (search rules) kind wanted h

@@ -1,18 +1,5 @@
 -- What was looked at before a first reading is set aside, and counts again after it.
-use Rattle.std.proofs.Common.{Option, Some, None, ◌≡◌, ℕ, zero, suc, ◌-◌, ◌^◌, ◌<◌, ◌≤◌, max, min, true, false, nat_lt, List, [], ◌∷◌, ◌++◌, length, length-append, append_assoc, get_or, refl, ap, sym, ◌∙◌, arith}
-use Rattle.std.proofs.Math.ListN.{set}
-use Rattle.typst_lines.specs.Place.{Place, moved}
-use Rattle.typst_tokens.specs.Sight.{hull_of, position}
-use Rattle.typst_tokens.specs.declared.hull.Hull.{Hull}
-use Rattle.typst_language.specs.declared.calls.Note.{Note}
-use Rattle.typst_language.specs.Ask.{Ask, only_looks}
-use Rattle.typst_language.specs.Ask.Ask.{looked, marked}
-use Rattle.typst_language.specs.Log.{Log, logged, with_hull}
-use Rattle.typst_language.specs.Syntax.{Parser}
-use Rattle.typst_language.specs.Meaning.{Level}
-use Rattle.typst_language.specs.Checkpoint.{Saved, looked_since, saved}
-use Rattle.typst_language.specs.Noted.{hull_in, listed, looked_alone, looked_before, note_after, notes_after}
-use Rattle.typst_language.specs.View.{View, Does, Fits, at, begun, looked_too}
+use Rattle.typst_language.proofs.Cited.{Option, Some, None, ◌≡◌, ℕ, zero, suc, ◌-◌, ◌^◌, ◌<◌, ◌≤◌, max, min, true, false, nat_lt, List, [], ◌∷◌, ◌++◌, length, length-append, append_assoc, get_or, refl, ap, sym, ◌∙◌, arith, set, Place, moved, hull_of, position, Hull, Note, Ask, only_looks, looked, marked, Log, logged, with_hull, Parser, Level, Saved, looked_since, saved, hull_in, listed, looked_alone, looked_before, note_after, notes_after, View, Does, Fits, at, begun, looked_too}
 use Rattle.typst_language.proofs.Either.{Back}
 use Rattle.typst_language.proofs.Logs.{Among, among-is, is-among, same-log}
 

@@ -1,12 +1,5 @@
 -- What the code does by the token at hand.
-use Rattle.std.proofs.Common.{◌≡◌, Bool, true, false, ap, sym, ◌∙◌}
-use Rattle.typst_kinds.specs.declared.kind.SyntaxKind.{SyntaxKind}
-use Rattle.typst_language.specs.Hand.{AtHand, as_at_hand}
-use Rattle.typst_language.specs.Meaning.{Level}
-use Rattle.typst_language.specs.Syntax.{Parser}
-use Rattle.typst_language.specs.Syntax.Parser.{next, pick}
-use Rattle.typst_language.specs.Steps.{peek}
-use Rattle.typst_language.specs.View.{View, Goes, Fits}
+use Rattle.typst_language.proofs.Cited.{◌≡◌, Bool, true, false, ap, sym, ◌∙◌, SyntaxKind, AtHand, as_at_hand, Level, Parser, next, pick, peek, View, Goes, Fits}
 use Rattle.typst_language.proofs.Steps.{does-next, does-peek, does-pick, does-other}
 
 -- a test of the kind at hand, by what the code found

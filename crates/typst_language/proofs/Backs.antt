@@ -1,19 +1,7 @@
 -- No more nodes are taken back than empty errors stand there.
-use Rattle.std.proofs.Common.{◌≡◌, ℕ, zero, suc, ◌+◌, ◌≤◌, Bool, true, false, ◌&&◌, if◌then◌else◌, nat_lt, List, [], ◌∷◌, ◌++◌, length, length-append, length-take, length-drop, refl, ◌<◌, ◌⊎◌, inl, inr, Option, Some, None, arith, rules}
-use Rattle.typst_lines.specs.Place.{Place, moved}
+use Rattle.typst_language.proofs.Cited.{◌≡◌, ℕ, zero, suc, ◌+◌, ◌≤◌, Bool, true, false, ◌&&◌, if◌then◌else◌, nat_lt, List, [], ◌∷◌, ◌++◌, length, length-append, length-take, length-drop, refl, ◌<◌, ◌⊎◌, inl, inr, Option, Some, None, arith, rules, Place, moved, Block, Call, Point, Hand, NodeChange, Shape, on_first, first_changed, shaped, count_empty, after_node, after_shape, stays, turns_wrong, is_not, renamed, unparened, Op, Begin, Parser, hand, so, further, column, erred, takes, takes_so, flushes, complains, advises, marks, is_deepest, gives, does, next, pick, repeat, wraps, grows, nests, scoped, either, calls, block, Outcome, Meaning, Level, answered, joined, turns, as_last, bound, repeated, before, reshaped, grown, is_more, growths, growing, nestings, nesting, given_up, bounded, same_mode, entered, left, flushed_state, hand_of, hand_asks_of, gave, taken_node, done, run, Tidy, Backs}
 use Rattle.typst_lexer.specs.Tree.{Tree}
-use Rattle.typst_language.specs.declared.calls.Block.{Block}
-use Rattle.typst_language.specs.Calls.{Call}
-use Rattle.typst_language.specs.Point.{Point}
-use Rattle.typst_language.specs.Hand.{Hand}
 use Rattle.typst_language.proofs.HintedNodes.{length-hinted}
-use Rattle.typst_language.specs.Shape.{NodeChange, Shape, on_first, first_changed, shaped, count_empty, after_node, after_shape}
-use Rattle.typst_language.specs.Shape.NodeChange.{stays, turns_wrong, is_not, renamed, unparened}
-use Rattle.typst_language.specs.Syntax.{Op, Begin, Parser}
-use Rattle.typst_language.specs.Syntax.Op.{hand, so, further, column, erred, takes, takes_so, flushes, complains, advises, marks, is_deepest}
-use Rattle.typst_language.specs.Syntax.Parser.{gives, does, next, pick, repeat, wraps, grows, nests, scoped, either, calls, block}
-use Rattle.typst_language.specs.Meaning.{Outcome, Meaning, Level, answered, joined, turns, as_last, bound, repeated, before, reshaped, grown, is_more, growths, growing, nestings, nesting, given_up, bounded, same_mode, entered, left, flushed_state, hand_of, hand_asks_of, gave, taken_node, done, run}
-use Rattle.typst_language.specs.Sound.{Tidy, Backs}
 use Rattle.typst_language.proofs.Places.{length-less}
 use Rattle.typst_language.proofs.Within.{on_both, grew}
 

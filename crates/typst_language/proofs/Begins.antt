@@ -1,22 +1,5 @@
 -- Readings that begin by taking the token at hand, and so leave what stood before it.
-use Rattle.std.proofs.Common.{Option, ◌≡◌, ℕ, ◌+◌, ◌-◌, ◌<◌, ◌==◌, Bool, true, false, if◌then◌else◌, List, [], ◌++◌, length, take, drop, append_assoc, append-nil, length-append, refl, ap, sym, ◌∙◌, subst, arith}
-use Rattle.std.proofs.Math.Seq.{take-length}
-use Rattle.typst_lines.specs.Place.{moved}
-use Rattle.typst_tree.specs.Tree.{Tree}
-use Rattle.typst_language.specs.declared.reading.Reading.{Reading}
-use Rattle.typst_language.specs.Point.{Point, Trivia, pending}
-use Rattle.typst_language.specs.Hand.{AtHand, Hand, as_at_hand}
-use Rattle.typst_language.specs.Shape.{Making, Shape, shaped}
-use Rattle.typst_language.specs.Shape.Making.{itself}
-use Rattle.typst_language.specs.Sound.{Sound}
-use Rattle.typst_language.specs.Steps.{eat, eat_making}
-use Rattle.typst_language.specs.Syntax.{Parser}
-use Rattle.typst_language.specs.Syntax.Begin.{at_token}
-use Rattle.typst_language.specs.Syntax.Op.{hand, takes}
-use Rattle.typst_language.specs.Syntax.Parser.{does, gives, next, scoped, wraps}
-use Rattle.typst_language.specs.Meaning.{Level, Outcome, asked, entered, hand_of, joined, run}
-use Rattle.typst_language.specs.View.{View, Ran, Fits, at}
-use Rattle.typst_language.specs.Checkpoint.{Leaves, first_of}
+use Rattle.typst_language.proofs.Cited.{Option, ◌≡◌, ℕ, ◌+◌, ◌-◌, ◌<◌, ◌==◌, Bool, true, false, if◌then◌else◌, List, [], ◌++◌, length, take, drop, append_assoc, append-nil, length-append, refl, ap, sym, ◌∙◌, subst, arith, moved, Tree, Reading, Point, Trivia, pending, AtHand, Hand, as_at_hand, Making, Shape, shaped, itself, Sound, eat, eat_making, Parser, at_token, hand, takes, does, gives, next, scoped, wraps, Level, Outcome, asked, entered, hand_of, joined, run, View, Ran, Fits, at, Leaves, first_of, take-length}
 use Rattle.typst_language.proofs.Backs.{backs-run}
 use Rattle.typst_language.proofs.HintedNodes.{hinted-append, length-hinted}
 use Rattle.typst_language.proofs.Places.{take-both, drop-both, drop-all, less-none}

@@ -1,7 +1,5 @@
 -- What is known of first readings changes nothing that is read.
-use Rattle.std.proofs.Common.{◌≡◌, refl, arith}
-use Rattle.typst_language.specs.Syntax.{Parser}
-use Rattle.typst_language.specs.Meaning.{Meaning, Level, Guessing, guessing, run}
+use Rattle.typst_language.proofs.Cited.{◌≡◌, refl, arith, Parser, Meaning, Level, Guessing, guessing, run}
 
 -- what is made of the same is the same
 under : {X A : Type 0} (f : X → Meaning A) {x y : X} → x ≡ y → ◌≡◌ {A = Meaning A} (f x) (f y)

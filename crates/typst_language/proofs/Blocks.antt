@@ -1,19 +1,6 @@
 -- Blocks, which are noted as units.
-use Rattle.std.proofs.Common.{◌≡◌, ℕ, ◌-◌, [], ◌∷◌, ◌++◌, arith}
-use Rattle.std.specs.Prelude.{Result}
+use Rattle.typst_language.proofs.Cited.{◌≡◌, ℕ, ◌-◌, [], ◌∷◌, ◌++◌, arith, Result, Block, Opens, Closes, Call, Answer, marked, forgot, state_of, Sound, Parser, ◌>>◌, flushes, does, block, peek, read_block, Outcome, Level, apart, bounded, done, run, View, Runs, Ran, Goes, Does, Calls, Frame, Fills, Fits, Loose, Looked, Opened, Closed, ReadsBlock, noted_here, unasked}
 use Rattle.std.specs.declared.alloc.AllocError.{AllocError}
-use Rattle.typst_language.specs.declared.calls.Block.{Block}
-use Rattle.typst_language.specs.declared.calls.Mark.TheVariants.{Opens, Closes}
-use Rattle.typst_language.specs.Calls.{Call, Answer}
-use Rattle.typst_language.specs.Ask.Ask.{marked}
-use Rattle.typst_language.specs.Point.{forgot, state_of}
-use Rattle.typst_language.specs.Sound.{Sound}
-use Rattle.typst_language.specs.Syntax.{Parser, ◌>>◌}
-use Rattle.typst_language.specs.Syntax.Op.{flushes}
-use Rattle.typst_language.specs.Syntax.Parser.{does, block}
-use Rattle.typst_language.specs.Steps.{peek, read_block}
-use Rattle.typst_language.specs.Meaning.{Outcome, Level, apart, bounded, done, run}
-use Rattle.typst_language.specs.View.{View, Runs, Ran, Goes, Does, Calls, Frame, Fills, Fits, Loose, Looked, Opened, Closed, ReadsBlock, noted_here, unasked}
 use Rattle.typst_language.proofs.Logs.{logged-append}
 use Rattle.typst_language.proofs.Runs.{runs-followed, ran-next, ran-gives, ran-look, ran-flushes, flushed-fits, looked-fits}
 

@@ -1,9 +1,6 @@
 -- Bytes and characters that are left.
-use Rattle.std.proofs.Common.{◌≡◌, ℕ, zero, suc, ◌<◌, ◌≤◌, List, [], ◌∷◌, length, drop, encode_utf8_all, length-append, ap, arith}
-use Rattle.typst_lines.specs.Place.{Place, moved}
+use Rattle.typst_language.proofs.Cited.{◌≡◌, ℕ, zero, suc, ◌<◌, ◌≤◌, List, [], ◌∷◌, length, drop, encode_utf8_all, length-append, ap, arith, Place, moved, bytes_left, encode_utf8}
 use Rattle.typst_lines.proofs.PlaceLemmas.{encode_utf8_nonempty}
-use Rattle.std.specs.Char.{encode_utf8}
-use Rattle.typst_language.specs.Bytes.{bytes_left}
 use Rattle.typst_language.proofs.Places.{moved-ahead}
 
 abbrev size : List ℕ → ℕ

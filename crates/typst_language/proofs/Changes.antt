@@ -1,21 +1,6 @@
 -- What the first of the nodes from a number on becomes, in its place.
-use Rattle.std.proofs.Common.{Option, ◌≡◌, ℕ, zero, suc, ◌+◌, ◌<◌, ◌≤◌, true, false, if◌then◌else◌, List, [], ◌∷◌, ◌++◌, length, map, take, drop, get_or, refl, ap, sym, ◌∙◌, subst, arith}
-use Rattle.std.proofs.lemmas.List.{take-append-drop}
-use Rattle.std.proofs.Math.ListN.{set}
-use Rattle.typst_kinds.specs.Kinds.{is_error}
-use Rattle.typst_tree.specs.Tree.{Tree, text_of}
-use Rattle.typst_language.specs.Point.{Point, Trivia, pending}
-use Rattle.typst_language.specs.Shape.{NodeChange, changed, first_changed, count_empty, after_node, after_change, seen}
-use Rattle.typst_language.specs.Shape.NodeChange.{stays, turns_wrong, is_not, renamed, unparened}
-use Rattle.typst_language.specs.Shape.Shape.{keeps}
+use Rattle.typst_language.proofs.Cited.{Option, ◌≡◌, ℕ, zero, suc, ◌+◌, ◌<◌, ◌≤◌, true, false, if◌then◌else◌, List, [], ◌∷◌, ◌++◌, length, map, take, drop, get_or, refl, ap, sym, ◌∙◌, subst, arith, take-append-drop, set, is_error, Tree, text_of, Point, Trivia, pending, NodeChange, changed, first_changed, count_empty, after_node, after_change, seen, stays, turns_wrong, is_not, renamed, unparened, keeps, Level, Sound, Parser, at_token, wraps, seeing, View, Does, Rewrapped}
 use Rattle.typst_language.proofs.Leaves.{text-changed}
-use Rattle.typst_language.specs.Meaning.{Level}
-use Rattle.typst_language.specs.Sound.{Sound}
-use Rattle.typst_language.specs.Syntax.{Parser}
-use Rattle.typst_language.specs.Syntax.Begin.{at_token}
-use Rattle.typst_language.specs.Syntax.Parser.{wraps}
-use Rattle.typst_language.specs.Expected.{seeing}
-use Rattle.typst_language.specs.View.{View, Does, Rewrapped}
 use Rattle.typst_language.proofs.Runs.{rewrapped-fits}
 use Rattle.typst_language.proofs.Steps.{does-next, does-peek, does-wraps}
 use Rattle.typst_language.proofs.Ready.{told-node}

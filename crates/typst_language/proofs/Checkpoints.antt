@@ -1,11 +1,5 @@
 -- Going back to a checkpoint.
-use Rattle.std.proofs.Common.{◌≡◌, ℕ, min, if◌then◌else◌, List, length, take, None, refl}
-use Rattle.typst_tree.specs.Tree.{Tree}
-use Rattle.typst_language.specs.Hand.{known_by}
-use Rattle.typst_language.specs.Log.{Log}
-use Rattle.typst_language.specs.View.{View}
-use Rattle.typst_language.specs.Checkpoint.{Saved, trivia_back, went_back}
-use Rattle.typst_language.specs.Noted.{unnoted}
+use Rattle.typst_language.proofs.Cited.{◌≡◌, ℕ, min, if◌then◌else◌, List, length, take, None, refl, Tree, known_by, Log, View, Saved, trivia_back, went_back, unnoted}
 
 -- what the code set is what stood at the checkpoint
 pub back-is : (c : Saved) (v : View) (ns ts : List Tree) (e : ℕ) (h : Log) → ns ≡ take c.nodes v.nodes → ts ≡ trivia_back c v → e ≡ min c.state.empties (length ns) → h ≡ unnoted c.notes v.log

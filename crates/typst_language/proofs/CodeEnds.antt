@@ -1,21 +1,8 @@
 -- A token of code isn't the end.
-use Rattle.std.proofs.Common.{◌≡◌, ℕ, Bool, false, ◌==◌, if◌then◌else◌, List, ◌∷◌, length, Option, Some, None, refl, arith}
-use Rattle.std.specs.Char.{is_ascii_digit}
-use Rattle.std.specs.Prelude.{encode_utf8_all}
-use Rattle.typst_kinds.specs.declared.kind.SyntaxKind.{SyntaxKind}
+use Rattle.typst_language.proofs.Cited.{◌≡◌, ℕ, Bool, false, ◌==◌, if◌then◌else◌, List, ◌∷◌, length, Option, Some, None, refl, arith, SyntaxKind, CharClasses, Reader, spanned, answer, skip, is_unit, sign, Memory, Token, is_end, is_ascii_digit, is_id_continue, label, blank, comment, fence, brackets, quoted, encode_utf8_all}
 use Rattle.typst_kinds.specs.declared.kind.SyntaxKind.TheVariants as kind
 use Rattle.typst_lines.specs.Place.{Place, scout, passes, moved, run, past}
-use Rattle.typst_lines.specs.Classes.{CharClasses}
-use Rattle.typst_lines.specs.Identifiers.{is_id_continue}
-use Rattle.typst_tokens.specs.Reader.{Reader, spanned}
-use Rattle.typst_tokens.specs.Reader.Reader.{answer, skip}
-use Rattle.typst_tokens.specs.Characters.{is_unit}
-use Rattle.typst_tokens.specs.Common.{sign}
-use Rattle.typst_tokens.specs.Labels.{label}
-use Rattle.typst_tokens.specs.Memory.{Memory}
-use Rattle.typst_tokens.specs.Memory.Memory.{blank, comment, fence, brackets, quoted}
 use Rattle.typst_tokens.specs.declared.token.Base.{Base}
-use Rattle.typst_tokens.specs.declared.token.Token.{Token}
 use Rattle.typst_tokens.specs.Code.{code, single, less, with_equals, dots, dot, equals, bang}
 use Rattle.typst_tokens.specs.Identifiers.{keyword, named, keyword_or_name, ident}
 use Rattle.typst_tokens.specs.Invalid.{foreign, invalid}
@@ -23,7 +10,6 @@ use Rattle.typst_tokens.specs.Numbers.{in_suffix, numbered, suffixed, exponent_d
 use Rattle.typst_tokens.specs.Strings.{in_string, string_end, string}
 use Rattle.typst_tokens.specs.declared.numbers.Numeral.{Numeral}
 use Rattle.typst_tokens.specs.declared.numbers.Numeral.TheVariants as numeral
-use Rattle.typst_language.specs.Depth.{is_end}
 use Rattle.typst_language.proofs.Goes.{Goes, goes-if, token-if, word-goes}
 
 sign-goes : (alone both : SyntaxKind) (p : Place) → is_end alone ≡ false → is_end both ≡ false → Goes (with_equals alone both) p

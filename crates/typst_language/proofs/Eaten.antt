@@ -1,9 +1,5 @@
 -- Parsers that take the token at hand, whatever it is.
-use Rattle.std.proofs.Common.{◌<◌}
-use Rattle.typst_lines.specs.Place.{Place}
-use Rattle.typst_language.specs.Point.{Point}
-use Rattle.typst_language.specs.Syntax.{Parser}
-use Rattle.typst_language.specs.Meaning.{Level, hand_of, run}
+use Rattle.typst_language.proofs.Cited.{◌<◌, Place, Point, Parser, Level, hand_of, run}
 
 -- where the token at hand has characters, some are taken
 abbrev pub Eats : {A : Type 0} → Level → Parser A → Type 0

@@ -1,25 +1,5 @@
 -- Two readings of one place, of which the first may be given up.
-use Rattle.std.proofs.Common.{Option, Some, None, ◌≡◌, ℕ, ◌-◌, ◌^◌, ◌≤◌, max, min, Bool, true, false, if◌then◌else◌, List, [], ◌∷◌, ◌++◌, length, drop, append-nil, length-append, refl, ap, sym, ◌∙◌, subst, arith}
-use Rattle.typst_lines.specs.Place.{Place, moved}
-use Rattle.typst_tree.specs.Tree.{Tree}
-use Rattle.typst_tokens.specs.Sight.{hull_of}
-use Rattle.typst_tokens.specs.declared.hull.Hull.{Hull}
-use Rattle.typst_language.specs.declared.calls.Note.{Note}
-use Rattle.typst_language.specs.Ask.{Ask, only_looks}
-use Rattle.typst_language.specs.Ask.Ask.{looked, marked}
-use Rattle.typst_tokens.specs.Reader.{look}
-use Rattle.typst_language.specs.Point.{Trivia}
-use Rattle.typst_language.specs.Hand.{hand_asks, known_by}
-use Rattle.typst_language.specs.Log.{Log, least_after, logged, reach_after, with_hull, with_more, with_note}
-use Rattle.typst_language.specs.Syntax.{Parser}
-use Rattle.typst_language.specs.Syntax.Parser.{either}
-use Rattle.typst_language.specs.Meaning.{Level, hand_asks_of, run}
-use Rattle.typst_language.specs.declared.memo.Guessed.{Guessed}
-use Rattle.typst_language.specs.Remembered.{Knows, LooksIn, end_of}
-use Rattle.typst_language.specs.View.{View, Runs, Ran, Goes, Does, Dropped, Fits, at, looked_too}
-use Rattle.typst_language.specs.Noted.{listed}
-use Rattle.typst_language.specs.Checkpoint.{Leaves, Saved, forgot_notes, saved, went_back}
-use Rattle.typst_language.specs.Noted.{hull_in, least_of, reach_of, unnoted}
+use Rattle.typst_language.proofs.Cited.{Option, Some, None, ◌≡◌, ℕ, ◌-◌, ◌^◌, ◌≤◌, max, min, Bool, true, false, if◌then◌else◌, List, [], ◌∷◌, ◌++◌, length, drop, append-nil, length-append, refl, ap, sym, ◌∙◌, subst, arith, Place, moved, Tree, hull_of, Hull, Note, Ask, only_looks, looked, marked, look, Trivia, hand_asks, known_by, Log, least_after, logged, reach_after, with_hull, with_more, with_note, Parser, either, Level, hand_asks_of, run, Guessed, Knows, LooksIn, end_of, View, Runs, Ran, Goes, Does, Dropped, Fits, at, looked_too, listed, Leaves, Saved, forgot_notes, saved, went_back, hull_in, least_of, reach_of, unnoted}
 use Rattle.typst_language.proofs.Places.{take-both, drop-both, take-all, drop-all}
 use Rattle.typst_language.proofs.Logs.{among-is, is-among, logged-append, same-log}
 use Rattle.typst_language.proofs.Knowing.{end-moved, knows-at, looks-among, looks-more, looks-notes}

@@ -1,39 +1,17 @@
 -- Where a token is the end, and how many characters another takes.
-use Rattle.std.proofs.Common.{◌≡◌, ◌<◌, ℕ, zero, suc, Bool, true, false, ◌&&◌, ◌==◌, if◌then◌else◌, List, [], ◌∷◌, take, Some, refl, ap, sym, ◌∙◌, arith, Option}
-use Rattle.typst_kinds.specs.declared.kind.SyntaxKind.{SyntaxKind}
+use Rattle.typst_language.proofs.Cited.{◌≡◌, ◌<◌, ℕ, zero, suc, Bool, true, false, ◌&&◌, ◌==◌, if◌then◌else◌, List, [], ◌∷◌, take, Some, refl, ap, sym, ◌∙◌, arith, Option, SyntaxKind, SyntaxMode, is_space, CharClasses, line_ends, is_parbreak, whitespace, shebang, line_comment, block_comment, comment_end, sign, answer, of_mode, hash, slash, star, backtick, token, Token, on, is_end, token_node, Reading, token_at, len_at, at_trivia, Ahead, after_trivia, direct, ahead_by, ahead, ahead_of, column_at, known_by, hand_by, hand_at, Trivia, Memory, dot, marker_or_text, marker, hyphen, minus, emphasis, heading, numbering, markup, blank, comment, fence, brackets, quoted, text, text_from, label, is_id_continue, Continue}
 use Rattle.typst_kinds.specs.declared.kind.SyntaxKind.TheVariants as kind
-use Rattle.typst_kinds.specs.declared.mode.SyntaxMode.{SyntaxMode}
 use Rattle.typst_lines.specs.Place.{Place, scout, passes, moved, run, past}
-use Rattle.typst_tokens.specs.Characters.{is_space}
-use Rattle.typst_lines.specs.Classes.{CharClasses}
-use Rattle.typst_tokens.specs.Common.{line_ends, is_parbreak, whitespace, shebang, line_comment, block_comment, comment_end}
-use Rattle.typst_tokens.specs.Markup.{dot, marker_or_text, marker, hyphen, minus, emphasis, heading, numbering, markup}
-use Rattle.typst_tokens.specs.Common.{sign}
 use Rattle.typst_tokens.specs.Reader.{Reader, place, spanned}
-use Rattle.typst_tokens.specs.Memory.Memory.{blank, comment, fence, brackets, quoted}
-use Rattle.typst_tokens.specs.Reader.Reader.{answer}
-use Rattle.typst_tokens.specs.Text.{text, text_from}
 use Rattle.typst_tokens.specs.Link.{in_link, link_end, link, link_or_text}
 use Rattle.typst_tokens.specs.Names.{label_or_text, ref_marker, ref_or_text}
-use Rattle.typst_tokens.specs.Labels.{label}
 use Rattle.typst_tokens.specs.Raw.{raw}
-use Rattle.typst_lines.specs.Identifiers.{is_id_continue}
 use Rattle.typst_tokens.specs.Token.{plain}
-use Rattle.typst_lexer.specs.Tokens.{of_mode, hash, slash, star, backtick, token}
-use Rattle.typst_tokens.specs.declared.token.Token.{Token}
 use Rattle.typst_lexer.proofs.TokenEats.{token-eats}
-use Rattle.typst_lines.proofs.Bools.{on}
-use Rattle.typst_language.specs.Depth.{is_end}
-use Rattle.typst_lexer.specs.Nodes.{token_node}
-use Rattle.typst_language.specs.declared.reading.AtNewline.TheVariants.{Continue}
-use Rattle.typst_language.specs.declared.reading.Reading.{Reading}
-use Rattle.typst_language.specs.Hand.{token_at, len_at, at_trivia, Ahead, after_trivia, direct, ahead_by, ahead, ahead_of, column_at, known_by, hand_by, hand_at}
-use Rattle.typst_language.specs.Point.{Trivia}
 use Rattle.typst_language.proofs.Places.{moved-sum}
 use Rattle.typst_language.proofs.Goes.{Goes, goes-if, kind-if, word-goes}
 use Rattle.typst_language.proofs.CodeEnds.{code-goes}
 use Rattle.typst_language.proofs.MathEnds.{backslash-goes, math-goes}
-use Rattle.typst_tokens.specs.Memory.{Memory}
 
 text-goes : (k : CharClasses) (p : Place) → Goes (text k) p
 unfolding text

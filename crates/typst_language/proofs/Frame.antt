@@ -1,31 +1,7 @@
 -- The law of the frame, for whatever the language can say.
-use Rattle.std.proofs.Common.{◌≡◌, ℕ, zero, suc, ◌+◌, ◌<◌, ◌≤◌, max, Bool, true, false, ◌&&◌, if◌then◌else◌, nat_lt, List, [], ◌∷◌, ◌++◌, length, take, refl, ap, sym, ◌∙◌, subst, arith, Option, Some, None}
-use borrow.Author.Tests.{ltb-true}
-use Rattle.typst_kinds.specs.declared.kind.SyntaxKind.{SyntaxKind}
+use Rattle.typst_language.proofs.Cited.{◌≡◌, ℕ, zero, suc, ◌+◌, ◌<◌, ◌≤◌, max, Bool, true, false, ◌&&◌, if◌then◌else◌, nat_lt, List, [], ◌∷◌, ◌++◌, length, take, refl, ap, sym, ◌∙◌, subst, arith, Option, Some, None, ltb-true, SyntaxKind, SyntaxMode, Place, moved, CharClasses, token_node, Token, token, and-second, Block, Call, Newlines, Reading, Trivia, Point, gap_of, forgot, Ask, SameIn, shift, looked, token_at, len_at, at_trivia, Hand, AtHand, as_at_hand, Ahead, direct, after_trivia, ahead_by, ahead, asks_by, ahead_asks, ahead_of, ahead_asks_of, column_at, column_look, stops, asks_column, hand_by, hand_at, hand_asks, Shape, Op, Begin, Parser, hand, so, further, column, erred, takes, takes_so, flushes, complains, advises, marks, is_deepest, gives, does, next, pick, repeat, wraps, grows, nests, scoped, either, calls, block, is_trivia, Outcome, Meaning, Level, joined, answered, followed, turns, as_last, bound, repeated, before, wrapped, grown, is_more, growths, growing, nestings, nesting, closed, bounded, deeper_by_one, given_up, chosen, entered, left_to, plain, hand_of, hand_asks_of, asked, flushed_state, reader_so, done, run, Framed, Within}
 use Rattle.typst_kinds.specs.declared.kind.SyntaxKind.TheVariants as kind
-use Rattle.typst_kinds.specs.declared.mode.SyntaxMode.{SyntaxMode}
-use Rattle.typst_lines.specs.Place.{Place, moved}
-use Rattle.typst_lines.specs.Classes.{CharClasses}
-use Rattle.typst_lexer.specs.Nodes.{token_node}
-use Rattle.typst_tokens.specs.declared.token.Token.{Token}
-use Rattle.typst_lexer.specs.Tokens.{token}
-use Rattle.typst_lines.proofs.Bools.{and-second}
-use Rattle.typst_language.specs.declared.calls.Block.{Block}
-use Rattle.typst_language.specs.Calls.{Call}
-use Rattle.typst_language.specs.declared.reading.Newlines.{Newlines}
-use Rattle.typst_language.specs.declared.reading.Reading.{Reading}
-use Rattle.typst_language.specs.Point.{Trivia, Point, gap_of, forgot}
-use Rattle.typst_language.specs.Ask.{Ask, SameIn, shift}
-use Rattle.typst_language.specs.Ask.Ask.{looked}
-use Rattle.typst_language.specs.Hand.{token_at, len_at, at_trivia, Hand, AtHand, as_at_hand, Ahead, direct, after_trivia, ahead_by, ahead, asks_by, ahead_asks, ahead_of, ahead_asks_of, column_at, column_look, stops, asks_column, hand_by, hand_at, hand_asks}
-use Rattle.typst_language.specs.Shape.{Shape}
 use Rattle.typst_language.proofs.Places.{moved-sum}
-use Rattle.typst_language.specs.Syntax.{Op, Begin, Parser}
-use Rattle.typst_language.specs.Syntax.Op.{hand, so, further, column, erred, takes, takes_so, flushes, complains, advises, marks, is_deepest}
-use Rattle.typst_language.specs.Syntax.Parser.{gives, does, next, pick, repeat, wraps, grows, nests, scoped, either, calls, block}
-use Rattle.typst_kinds.specs.Kinds.{is_trivia}
-use Rattle.typst_language.specs.Meaning.{Outcome, Meaning, Level, joined, answered, followed, turns, as_last, bound, repeated, before, wrapped, grown, is_more, growths, growing, nestings, nesting, closed, bounded, deeper_by_one, given_up, chosen, entered, left_to, plain, hand_of, hand_asks_of, asked, flushed_state, reader_so, done, run}
-use Rattle.typst_language.specs.Sound.{Framed, Within}
 use Rattle.typst_language.proofs.Places.{ahead-left}
 use Rattle.typst_language.proofs.Within.{grew, nest, turns-enough, growths-enough, nestings-enough, within-run}
 use Rattle.typst_language.proofs.Looks.{same_in-shift, same_in-first, same_in-second, same_in-only, same_in-sunk, token-same, column-same}

@@ -1,6 +1,5 @@
 -- What the characters ahead begin with.
-use Rattle.std.proofs.Common.{List, ℕ, ◌≡◌, ◌∙◌, sym, ap, refl, length, take, drop, take_at}
-use Rattle.std.proofs.lemmas.List.{take-append-drop}
+use Rattle.typst_language.proofs.Cited.{List, ℕ, ◌≡◌, ◌∙◌, sym, ap, refl, length, take, drop, take_at, take-append-drop}
 
 own : (n : ℕ) (xs : List ℕ) → take (length (take n xs)) xs ≡ take n xs
 own n xs = ap (take (length (take n xs))) (sym (take-append-drop n xs)) ∙ take_at (take n xs) (drop n xs) (length (take n xs)) refl

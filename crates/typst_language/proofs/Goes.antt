@@ -1,11 +1,5 @@
 -- What isn't the end.
-use Rattle.std.proofs.Common.{◌≡◌, ℕ, suc, Bool, true, false, ◌==◌, if◌then◌else◌, List, [], ◌∷◌}
-use Rattle.typst_kinds.specs.declared.kind.SyntaxKind.{SyntaxKind}
-use Rattle.typst_lines.specs.Place.{Place, scout, passes}
-use Rattle.typst_tokens.specs.Reader.{Reader, at_word, exec}
-use Rattle.typst_tokens.specs.Memory.{Memory}
-use Rattle.typst_tokens.specs.declared.token.Token.{Token}
-use Rattle.typst_language.specs.Depth.{is_end}
+use Rattle.typst_language.proofs.Cited.{◌≡◌, ℕ, suc, Bool, true, false, ◌==◌, if◌then◌else◌, List, [], ◌∷◌, SyntaxKind, Place, scout, passes, Reader, at_word, exec, Memory, Token, is_end}
 
 -- what is read there isn't the end
 abbrev pub Goes : Reader Memory Token → Place → Type 0

@@ -1,19 +1,7 @@
 -- What grows: a loop of which each turn may make one node of all that was given since its beginning.
-use Rattle.std.proofs.Common.{Option, Some, None, ◌≡◌, ℕ, suc, ◌+◌, ◌-◌, ◌<◌, ◌≤◌, true, false, ◌&&◌, nat_lt, length, refl, ap, sym, ◌∙◌, subst, arith}
-use borrow.Author.Tests.{lt-ltb}
-use Rattle.typst_lines.specs.Place.{Place, moved}
-use Rattle.typst_language.specs.Point.{Trivia, pending}
-use Rattle.typst_language.specs.Shape.{Shape}
-use Rattle.typst_language.specs.Sound.{Sound, Tidy}
-use Rattle.typst_language.specs.Syntax.{Parser}
-use Rattle.typst_language.specs.Syntax.Begin.{at_token}
-use Rattle.typst_language.specs.Syntax.Parser.{grows}
-use Rattle.typst_language.specs.Steps.{grow}
-use Rattle.typst_language.specs.Meaning.{Outcome, Meaning, Level, answered, joined, bound, before, grown, growths, growing, is_more, run}
+use Rattle.typst_language.proofs.Cited.{Option, Some, None, ◌≡◌, ℕ, suc, ◌+◌, ◌-◌, ◌<◌, ◌≤◌, true, false, ◌&&◌, nat_lt, length, refl, ap, sym, ◌∙◌, subst, arith, lt-ltb, Place, moved, Trivia, pending, Shape, Sound, Tidy, Parser, at_token, grows, grow, Outcome, Meaning, Level, answered, joined, bound, before, grown, growths, growing, is_more, run, bytes_left, View, Runs, Ran, Does, Fits, Rewrapped, at}
 use Rattle.typst_language.proofs.Within.{grew, within-run}
 use Rattle.typst_language.proofs.Backs.{backs-run, backs-joined, tidy-grew}
-use Rattle.typst_language.specs.Bytes.{bytes_left}
-use Rattle.typst_language.specs.View.{View, Runs, Ran, Does, Fits, Rewrapped, at}
 use Rattle.typst_language.proofs.Runs.{runs-followed, runs-reshaped, rewrapped-fits, shape-known, taken-some, taken-none, bound-after}
 use Rattle.typst_language.proofs.Steps.{does-next, does-peek, known-few}
 

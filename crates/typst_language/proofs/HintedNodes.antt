@@ -1,13 +1,7 @@
 -- Hints for an error that was given, and the nodes that stand after one outcome and the next.
-use Rattle.std.proofs.Common.{◌≡◌, ℕ, zero, suc, ◌+◌, ◌-◌, ◌<◌, ◌≤◌, Bool, if◌then◌else◌, nat_lt, List, [], ◌∷◌, ◌++◌, length, take, append_assoc, append-nil, inl, inr, refl, ap, sym, ◌∙◌, arith}
-use Rattle.std.proofs.lemmas.Bool.{cases_lt}
-use borrow.Author.Tests.{lt-ltb, le-ltb}
-use Rattle.std.specs.Prelude.{None}
-use Rattle.typst_kinds.specs.Kinds.{is_error}
+use Rattle.typst_language.proofs.Cited.{◌≡◌, ℕ, zero, suc, ◌+◌, ◌-◌, ◌<◌, ◌≤◌, Bool, if◌then◌else◌, nat_lt, List, [], ◌∷◌, ◌++◌, length, take, append_assoc, append-nil, inl, inr, refl, ap, sym, ◌∙◌, arith, cases_lt, lt-ltb, le-ltb, is_error, hinted_error, hinted_last, hinted, Outcome, less, standing, joined, None}
 use Rattle.typst_lexer.specs.Diagnostic.{hint_with}
 use Rattle.typst_lexer.specs.Tree.{Tree, advised, all_advised}
-use Rattle.typst_language.specs.Shape.{hinted_error, hinted_last, hinted}
-use Rattle.typst_language.specs.Meaning.{Outcome, less, standing, joined}
 use Rattle.typst_language.proofs.Places.{less-append, less-twice, less-none, length-less}
 
 length-last : (hs : List (List ℕ)) (ts : List Tree) → length (hinted_last hs ts) ≡ length ts

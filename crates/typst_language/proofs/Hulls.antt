@@ -1,11 +1,5 @@
 -- What was looked at for tokens, in bytes.
-use Rattle.std.proofs.Common.{◌≡◌, ℕ, zero, suc, ◌≤◌, Bool, true, false, if◌then◌else◌, refl, arith}
-use Rattle.typst_kinds.specs.declared.mode.SyntaxMode.{SyntaxMode}
-use Rattle.typst_lines.specs.Place.{Place, moved}
-use Rattle.typst_lines.specs.Classes.{CharClasses}
-use Rattle.typst_tokens.specs.declared.hull.Hull.{Hull}
-use Rattle.typst_language.specs.Hand.{ahead_by, len_at}
-use Rattle.typst_language.specs.Bytes.{joined_hull, token_hull, tokens_by}
+use Rattle.typst_language.proofs.Cited.{◌≡◌, ℕ, zero, suc, ◌≤◌, Bool, true, false, if◌then◌else◌, refl, arith, SyntaxMode, Place, moved, CharClasses, Hull, ahead_by, len_at, joined_hull, token_hull, tokens_by}
 use Rattle.typst_language.proofs.Places.{moved-sum}
 
 pub same-hull : (r s l m : ℕ) → r ≡ s → l ≡ m → ◌≡◌ {A = Hull} (record { reach = r; least = l }) (record { reach = s; least = m })

@@ -1,13 +1,6 @@
 -- The laws of all that the language can say, by any rules, at every level.
-use Rattle.std.proofs.Common.{◌≡◌, ℕ, zero, suc, true, false, refl, arith}
-use Rattle.typst_lines.specs.Classes.{CharClasses}
-use Rattle.typst_language.specs.declared.calls.Block.{Block}
-use Rattle.typst_language.specs.Calls.{Call, Answer, no_answer}
-use Rattle.typst_language.specs.Steps.{peek}
-use Rattle.typst_language.specs.Syntax.{Parser, ◌>>◌}
-use Rattle.typst_language.specs.Meaning.{Meaning, Level, plain, blockless, run}
+use Rattle.typst_language.proofs.Cited.{◌≡◌, ℕ, zero, suc, true, false, refl, arith, CharClasses, Block, Call, Answer, no_answer, peek, Parser, ◌>>◌, Meaning, Level, plain, blockless, run, Within, Backs, Framed, Alike, Lawful, Sound}
 use Rattle.typst_language.specs.Knot.{Rules, blocks_of, level_by, meaning_of, level_of}
-use Rattle.typst_language.specs.Sound.{Within, Backs, Framed, Alike, Lawful, Sound}
 use Rattle.typst_language.proofs.Alike.{alike-run}
 use Rattle.typst_language.proofs.Backs.{backs-run}
 use Rattle.typst_language.proofs.Frame.{framed-run}

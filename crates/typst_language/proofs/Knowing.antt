@@ -1,23 +1,6 @@
 -- What stays true of what is remembered of first readings.
-use Rattle.std.proofs.Common.{◌≡◌, ◌⊎◌, inl, inr, ℕ, zero, suc, ◌+◌, ◌-◌, ◌≤◌, min, true, List, [], ◌∷◌, Some, length, refl, ap, sym, ◌∙◌, subst, arith, rules}
-use Rattle.std.specs.Prelude.{insert, slice_get}
-use Rattle.typst_lines.specs.Place.{Place, moved, moved_from, moved_back}
-use Rattle.typst_lines.specs.Scanner.{place}
-use Rattle.typst_tokens.specs.Sight.{hull_of}
-use Rattle.typst_tokens.specs.declared.hull.Hull.{Hull}
+use Rattle.typst_language.proofs.Cited.{◌≡◌, ◌⊎◌, inl, inr, ℕ, zero, suc, ◌+◌, ◌-◌, ◌≤◌, min, true, List, [], ◌∷◌, Some, length, refl, ap, sym, ◌∙◌, subst, arith, rules, Place, moved, moved_from, moved_back, place, hull_of, Hull, Ask, only_looks, looked, marked, LiesIn, bytes_left, Stands, distance, ReadAhead, Log, logged, with_hull, is_leaf, hull_in, Guess, Guessing, Level, Guessed, AllSo, Comes, IsSo, Knows, LooksIn, end_of, View, Fits, Found, Remembers, place_after_paren, guess_at, insert, slice_get}
 use Rattle.typst_language.specs.declared.calls.AfterName.{AfterName}
-use Rattle.typst_language.specs.Ask.{Ask, only_looks}
-use Rattle.typst_language.specs.Ask.Ask.{looked, marked}
-use Rattle.typst_language.specs.Bytes.{LiesIn, bytes_left}
-use Rattle.typst_language.specs.AheadCursor.{Stands, distance}
-use Rattle.typst_language.specs.declared.ahead.ReadAhead.{ReadAhead}
-use Rattle.typst_language.specs.Log.{Log, logged, with_hull}
-use Rattle.typst_lexer.specs.Nodes.{is_leaf}
-use Rattle.typst_language.specs.Noted.{hull_in}
-use Rattle.typst_language.specs.Meaning.{Guess, Guessing, Level}
-use Rattle.typst_language.specs.declared.memo.Guessed.{Guessed}
-use Rattle.typst_language.specs.Remembered.{AllSo, Comes, IsSo, Knows, LooksIn, end_of}
-use Rattle.typst_language.specs.View.{View, Fits, Found, Remembers, place_after_paren, guess_at}
 use Rattle.typst_language.proofs.Bytes.{none-bytes}
 use Rattle.typst_language.proofs.Logs.{Among, with-again}
 use Rattle.typst_language.proofs.Places.{ahead-left, moved-min, moved-sum}

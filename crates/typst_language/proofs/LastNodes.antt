@@ -1,11 +1,8 @@
 -- The last of several nodes, by its place.
-use Rattle.std.proofs.Common.{None, true, false, ◌≡◌, ℕ, zero, suc, ◌-◌, ◌&&◌, List, [], ◌∷◌, length, get_or, refl, ap, sym, ◌∙◌, arith}
-use Rattle.std.proofs.Math.ListN.{set}
-use Rattle.typst_kinds.specs.Kinds.{is_error}
+use Rattle.typst_language.proofs.Cited.{None, true, false, ◌≡◌, ℕ, zero, suc, ◌-◌, ◌&&◌, List, [], ◌∷◌, length, get_or, refl, ap, sym, ◌∙◌, arith, set, is_error, hinted_error, hinted_last, is_sign, ends_with, in_parens}
 use Rattle.typst_lexer.specs.Tree.{Tree, advised}
 use Rattle.typst_kinds.specs.Diagnostic.{at_last, hint_with}
 use Rattle.typst_kinds.proofs.LastElement.{at_last-set}
-use Rattle.typst_language.specs.Shape.{hinted_error, hinted_last, is_sign, ends_with, in_parens}
 
 -- what ends with a sign
 ends-last : (c : ℕ) (ts : List Tree) (i : ℕ) (d : Tree) → length ts ≡ suc i → ends_with c ts ≡ is_sign c (get_or ts i d)

@@ -1,36 +1,12 @@
 -- The nodes that are given hold the characters that are taken.
-use Rattle.std.proofs.Common.{◌≡◌, ℕ, zero, suc, ◌+◌, ◌-◌, ◌<◌, ◌≤◌, Bool, true, false, ◌&&◌, if◌then◌else◌, nat_lt, List, [], ◌∷◌, ◌++◌, length, take, drop, length-append, append_assoc, append-nil, take-add, take_at, encode_utf8_all, refl, ap, sym, ◌∙◌, subst, arith, Option, Some, rules}
-use Rattle.std.proofs.lemmas.Str.{encodes-append}
-use Rattle.std.proofs.lemmas.List.{take-append-drop}
-use Rattle.typst_kinds.specs.declared.kind.SyntaxKind.{SyntaxKind}
-use Rattle.typst_kinds.specs.declared.mode.SyntaxMode.{SyntaxMode}
-use Rattle.typst_kinds.specs.Kinds.{is_error}
-use Rattle.typst_lines.specs.Place.{Place, moved}
+use Rattle.typst_language.proofs.Cited.{◌≡◌, ℕ, zero, suc, ◌+◌, ◌-◌, ◌<◌, ◌≤◌, Bool, true, false, ◌&&◌, if◌then◌else◌, nat_lt, List, [], ◌∷◌, ◌++◌, length, take, drop, length-append, append_assoc, append-nil, take-add, take_at, encode_utf8_all, refl, ap, sym, ◌∙◌, subst, arith, Option, Some, rules, encodes-append, take-append-drop, SyntaxKind, SyntaxMode, is_error, Place, moved, on, Block, Trivia, Point, Making, made, hinted_error, hinted_last, hinted, NodeChange, changed, first_changed, is_delimited, in_parens, renamed_last, parens_renamed, without_parens, Shape, shaped, count_empty, after_node, after_change, after_shape, stays, turns_wrong, is_not, renamed, unparened, itself, of_kind, surprise, wanted, Reading, CharClasses, token_node, token, utf8_ahead, token_at, len_at, token_by, at_trivia, Ahead, after_trivia, direct, ahead_by, ahead, hand_at, as_at_hand, column_at, Op, Begin, Parser, hand, so, further, column, erred, takes, takes_so, flushes, complains, advises, marks, is_deepest, gives, does, next, pick, repeat, wraps, grows, nests, scoped, either, calls, block, Outcome, Meaning, Level, less, joined, answered, turns, as_last, bound, repeated, before, inside, reshaped, grown, is_more, growths, growing, nestings, nesting, bounded, given_up, plain, entered, left, reader_so, gave, hand_of, asked, done, run, Call, Ask, None}
 use Rattle.typst_lexer.specs.Tree.{Tree, forest, trees, joined as text_joined, text_of, with_kind, made_error, all_advised, error_of, topped}
 use Rattle.typst_lexer.proofs.Texts.{text_all_advised}
 use Rattle.typst_tree.proofs.SpansAside.{forest_trees}
 use Rattle.typst_kinds.specs.declared.kind.SyntaxKind.TheVariants as kind
 use Rattle.typst_lexer.specs.Messages.{made_unexpected, made_expected, unexpected_message}
 use Rattle.typst_kinds.specs.Names.{name_of}
-use Rattle.std.specs.Prelude.{None}
-use Rattle.typst_lines.proofs.Bools.{on}
-use Rattle.typst_language.specs.declared.calls.Block.{Block}
-use Rattle.typst_language.specs.Point.{Trivia, Point}
-use Rattle.typst_language.specs.Shape.{Making, made, hinted_error, hinted_last, hinted, NodeChange, changed, first_changed, is_delimited, in_parens, renamed_last, parens_renamed, without_parens, Shape, shaped, count_empty, after_node, after_change, after_shape}
-use Rattle.typst_language.specs.Shape.NodeChange.{stays, turns_wrong, is_not, renamed, unparened}
-use Rattle.typst_language.specs.Shape.Making.{itself, of_kind, surprise, wanted}
-use Rattle.typst_language.specs.declared.reading.Reading.{Reading}
-use Rattle.typst_lines.specs.Classes.{CharClasses}
-use Rattle.typst_lexer.specs.Nodes.{token_node}
-use Rattle.typst_lexer.specs.Tokens.{token}
-use Rattle.typst_language.specs.Hand.{utf8_ahead, token_at, len_at, token_by, at_trivia, Ahead, after_trivia, direct, ahead_by, ahead, hand_at, as_at_hand, column_at}
-use Rattle.typst_language.specs.Syntax.{Op, Begin, Parser}
-use Rattle.typst_language.specs.Syntax.Op.{hand, so, further, column, erred, takes, takes_so, flushes, complains, advises, marks, is_deepest}
-use Rattle.typst_language.specs.Syntax.Parser.{gives, does, next, pick, repeat, wraps, grows, nests, scoped, either, calls, block}
-use Rattle.typst_language.specs.Meaning.{Outcome, Meaning, Level, less, joined, answered, turns, as_last, bound, repeated, before, inside, reshaped, grown, is_more, growths, growing, nestings, nesting, bounded, given_up, plain, entered, left, reader_so, gave, hand_of, asked, done, run}
 use Rattle.typst_language.specs.Sound.{Tidy, Backs, Stands}
-use Rattle.typst_language.specs.Calls.{Call}
-use Rattle.typst_language.specs.Ask.{Ask}
 use Rattle.typst_language.proofs.Within.{grew}
 use Rattle.typst_language.proofs.Backs.{backs-turns, tidy-nestings, backs-run}
 use Rattle.typst_lexer.proofs.TokenTexts.{text-token}

@@ -60,6 +60,7 @@ pub mod Tails
 pub mod Begins
 pub mod Changes
 pub mod Asks
+pub mod Cited
 pub mod Values
 pub mod Nots
 -- What the crates above name of those below.

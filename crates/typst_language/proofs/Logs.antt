@@ -1,18 +1,5 @@
 -- What was looked at and noted.
-use Rattle.std.proofs.Common.{Option, Some, None, ◌≡◌, ℕ, zero, suc, ◌+◌, ◌-◌, ◌≤◌, Bool, true, false, if◌then◌else◌, List, [], ◌∷◌, ◌++◌, refl, ap, ◌∙◌, arith}
-use Rattle.typst_kinds.specs.declared.mode.SyntaxMode.{SyntaxMode}
-use Rattle.typst_lines.specs.Place.{Place, moved}
-use Rattle.typst_lines.specs.Classes.{CharClasses}
-use Rattle.typst_tokens.specs.Sight.{hull_of}
-use Rattle.typst_tokens.specs.declared.hull.Hull.{Hull}
-use Rattle.typst_language.specs.declared.calls.Note.{Note}
-use Rattle.typst_language.specs.declared.reading.Reading.{Reading}
-use Rattle.typst_language.specs.Ask.{Ask, shift, sunk}
-use Rattle.typst_language.specs.Ask.Ask.{looked, marked}
-use Rattle.typst_language.specs.Point.{Trivia}
-use Rattle.typst_language.specs.Hand.{ahead, len_at, at_trivia, asks_by, ahead_asks, column_look, hand_at, hand_asks}
-use Rattle.typst_language.specs.Bytes.{joined_hull, token_hull, tokens_by, tokens_at, column_hull, whole_at}
-use Rattle.typst_language.specs.Log.{Log, with_hull, with_note, logged_one, logged}
+use Rattle.typst_language.proofs.Cited.{Option, Some, None, ◌≡◌, ℕ, zero, suc, ◌+◌, ◌-◌, ◌≤◌, Bool, true, false, if◌then◌else◌, List, [], ◌∷◌, ◌++◌, refl, ap, ◌∙◌, arith, SyntaxMode, Place, moved, CharClasses, hull_of, Hull, Note, Reading, Ask, shift, sunk, looked, marked, Trivia, ahead, len_at, at_trivia, asks_by, ahead_asks, column_look, hand_at, hand_asks, joined_hull, token_hull, tokens_by, tokens_at, column_hull, whole_at, Log, with_hull, with_note, logged_one, logged}
 use Rattle.typst_language.proofs.Hulls.{In, own-in, second-in}
 use Rattle.typst_language.proofs.Places.{moved-sum}
 

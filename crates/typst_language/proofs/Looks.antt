@@ -1,16 +1,12 @@
 -- What shows the same where it was looked at.
-use Rattle.std.proofs.Common.{◌≡◌, ℕ, zero, suc, ◌+◌, ◌-◌, ◌<◌, ◌≤◌, min, Bool, true, false, if◌then◌else◌, not, List, [], ◌∷◌, ◌++◌, length, take, slice_get, refl, arith}
+use Rattle.typst_language.proofs.Cited.{◌≡◌, ℕ, zero, suc, ◌+◌, ◌-◌, ◌<◌, ◌≤◌, min, Bool, true, false, if◌then◌else◌, not, List, [], ◌∷◌, ◌++◌, length, take, slice_get, refl, arith, Token, Memory, Ask, SameOne, SameIn, shift, shift_one, sunk, only_looks, token_by, len_by, column_at}
 use Rattle.std.specs.List.{prefix_len}
 use Rattle.typst_lines.specs.Newline.{is_newline}
 use Rattle.typst_lines.specs.Place.{Place, moved, scout, run, past}
 use Rattle.typst_tokens.specs.Reader.{Reader, eaten, Look, look, marked, Agree, spanned, from_before, skip_look}
 use Rattle.typst_tokens.specs.Reader.Reader.{answer, peek, glance, span, eat, see_run, skip, eat_run}
-use Rattle.typst_tokens.specs.declared.token.Token.{Token}
-use Rattle.typst_tokens.specs.Memory.{Memory}
 use Rattle.typst_tokens.proofs.Frame.{frame}
-use Rattle.typst_language.specs.Ask.{Ask, SameOne, SameIn, shift, shift_one, sunk, only_looks}
 use Rattle.typst_language.specs.Ask.Ask.{looked, marked as unit}
-use Rattle.typst_language.specs.Hand.{token_by, len_by, column_at}
 use Rattle.typst_language.proofs.Places.{moved-sum, ahead-left}
 
 -- ---- lists

@@ -1,23 +1,13 @@
 -- A token of a formula isn't the end.
-use Rattle.std.proofs.Common.{◌≡◌, ℕ, false, ◌==◌, ◌||◌, List, [], ◌∷◌, length, codes, subst, sym, refl, Option, Some, None, arith}
-use Rattle.typst_lines.specs.Classes.{CharClasses}
+use Rattle.typst_language.proofs.Cited.{◌≡◌, ℕ, false, ◌==◌, ◌||◌, List, [], ◌∷◌, length, codes, subst, sym, refl, Option, Some, None, arith, CharClasses, SyntaxKind, Reader, answer, skip, is_code_point, sign, Memory, Token, is_end, code_point, backslash}
 use Rattle.typst_lines.specs.declared.classes.MathClass.{MathClass}
-use Rattle.typst_kinds.specs.declared.kind.SyntaxKind.{SyntaxKind}
 use Rattle.typst_kinds.specs.declared.kind.SyntaxKind.TheVariants as kind
 use Rattle.typst_lines.specs.Place.{Place, scout, passes, moved, run, past}
 use Rattle.typst_lexer.specs.Atoms.{cluster, number, text}
 use Rattle.typst_lexer.specs.Math.{primes, atom, by_class, single, math_from, math}
 use Rattle.typst_lexer.specs.MathNames.{continues, is_field, after_name, named, name}
 use Rattle.typst_lexer.specs.Shorthands.{any_word, hyphen, tilde, colon, equals, greater, less_short, less_middle, less, bar, bracket, bang, dot, several}
-use Rattle.typst_tokens.specs.Reader.{Reader}
-use Rattle.typst_tokens.specs.Reader.Reader.{answer, skip}
-use Rattle.typst_tokens.specs.Characters.{is_code_point}
-use Rattle.typst_tokens.specs.Common.{sign}
-use Rattle.typst_tokens.specs.Escapes.{code_point, backslash}
-use Rattle.typst_tokens.specs.Memory.{Memory}
 use Rattle.typst_tokens.specs.Token.{plain}
-use Rattle.typst_tokens.specs.declared.token.Token.{Token}
-use Rattle.typst_language.specs.Depth.{is_end}
 use Rattle.typst_language.proofs.CodeEnds.{string-goes}
 use Rattle.typst_language.proofs.Goes.{Goes, goes-if, token-if, word-goes}
 

@@ -1,19 +1,7 @@
 -- What nests: a loop of which each turn becomes one node with all that comes after it.
-use Rattle.std.proofs.Common.{◌≡◌, ℕ, suc, ◌+◌, ◌<◌, ◌≤◌, Bool, true, false, ◌&&◌, nat_lt, List, [], ◌∷◌, ◌++◌, length, refl, ap, sym, ◌∙◌, subst, arith}
-use borrow.Author.Tests.{lt-ltb}
-use Rattle.typst_lines.specs.Place.{moved}
-use Rattle.typst_language.specs.Point.{gap_of}
-use Rattle.typst_language.specs.Shape.{Shape}
-use Rattle.typst_language.specs.Sound.{Sound}
-use Rattle.typst_language.specs.Syntax.{Parser, Begin}
-use Rattle.typst_language.specs.Syntax.Begin.{at_token}
-use Rattle.typst_language.specs.Syntax.Parser.{nests}
-use Rattle.typst_language.specs.Steps.{nest}
-use Rattle.typst_language.specs.Meaning.{Level, as_last, bound, before, joined, nestings, nesting, run}
+use Rattle.typst_language.proofs.Cited.{◌≡◌, ℕ, suc, ◌+◌, ◌<◌, ◌≤◌, Bool, true, false, ◌&&◌, nat_lt, List, [], ◌∷◌, ◌++◌, length, refl, ap, sym, ◌∙◌, subst, arith, lt-ltb, moved, gap_of, Shape, Sound, Parser, Begin, at_token, nests, nest, Level, as_last, bound, before, joined, nestings, nesting, run, bytes_left, View, Runs, Ran, Does, Fits, Rewrapped, at, rewrapped, rewrapped_each}
 use Rattle.typst_language.proofs.Within.{nestings-enough, within-run}
 use Rattle.typst_language.proofs.Backs.{backs-run, backs-joined, tidy-nestings}
-use Rattle.typst_language.specs.Bytes.{bytes_left}
-use Rattle.typst_language.specs.View.{View, Runs, Ran, Does, Fits, Rewrapped, at, rewrapped, rewrapped_each}
 use Rattle.typst_language.proofs.Runs.{runs-followed, runs-reshaped, rewrapped-fits, taken-some, taken-none, bound-after, no_turn}
 use Rattle.typst_language.proofs.Steps.{does-next, does-peek, known-few}
 use Rattle.typst_language.proofs.Grows.{from-token}

@@ -1,13 +1,9 @@
 -- Parens that go from what they delimit.
-use Rattle.std.proofs.Common.{◌≡◌, ℕ, suc, ◌-◌, Bool, true, false, ◌&&◌, List, [], ◌∷◌, length, refl, ap, sym, ◌∙◌, arith}
-use Rattle.typst_kinds.specs.Kinds.{is_error}
-use Rattle.typst_kinds.specs.declared.kind.SyntaxKind.{SyntaxKind}
+use Rattle.typst_language.proofs.Cited.{◌≡◌, ℕ, suc, ◌-◌, Bool, true, false, ◌&&◌, List, [], ◌∷◌, length, refl, ap, sym, ◌∙◌, arith, is_error, SyntaxKind, is_delimited, is_sign, in_parens, parens_renamed, renamed_last, without_parens, trees_forest}
 use Rattle.typst_kinds.specs.declared.kind.SyntaxKind.TheVariants as kind
 use Rattle.typst_kinds.specs.Head.{Head}
 use Rattle.typst_lexer.specs.Tree.{Tree, Forest, forest, with_kind, at_tree, at_child}
 use Rattle.typst_lexer.specs.Tree.Forest.{more}
-use Rattle.typst_lexer.proofs.SpansAside.{trees_forest}
-use Rattle.typst_language.specs.Shape.{is_delimited, is_sign, in_parens, parens_renamed, renamed_last, without_parens}
 
 last-tree : (k : SyntaxKind) (t : Tree) (ts : List Tree) → at_tree (with_kind k) (length ts) (forest (t ∷ ts)) ≡ forest (renamed_last k (t ∷ ts))
 last-tree k t [] = refl

@@ -1,9 +1,5 @@
 -- Places, and the ends of lists.
-use Rattle.std.proofs.Common.{◌≡◌, ℕ, zero, suc, ◌+◌, ◌-◌, ◌≤◌, min, List, [], ◌∷◌, ◌++◌, length, take, drop, length-append, length-take, length-drop, append-nil, refl, ap, sym, ◌∙◌, arith}
-use Rattle.std.proofs.lemmas.List.{take_min}
-use Rattle.std.proofs.Math.Seq.{take-length, drop-nil}
-use Rattle.typst_lines.specs.Place.{Place, moved, moved_from}
-use Rattle.typst_language.specs.Meaning.{less}
+use Rattle.typst_language.proofs.Cited.{◌≡◌, ℕ, zero, suc, ◌+◌, ◌-◌, ◌≤◌, min, List, [], ◌∷◌, ◌++◌, length, take, drop, length-append, length-take, length-drop, append-nil, refl, ap, sym, ◌∙◌, arith, take_min, Place, moved, moved_from, less, take-length, drop-nil}
 
 at-end : (n : ℕ) (b : List ℕ) → moved_from n b [] ≡ record { before = b; ahead = [] }
 at-end n b = grind arith

@@ -1,29 +1,8 @@
 -- The token at hand, read from its start in another way.
-use Rattle.std.proofs.Common.{◌≡◌, ℕ, ◌+◌, List, [], ◌∷◌, ◌++◌, ap, sym, ◌∙◌, arith}
-use Rattle.typst_kinds.specs.Kinds.{is_error}
-use Rattle.typst_lines.specs.Place.{Place, moved}
-use Rattle.typst_tree.specs.Tree.{Tree, text_of}
-use Rattle.typst_tokens.specs.Reader.{exec, eaten, look}
-use Rattle.typst_tokens.specs.Sight.{hull_of}
-use Rattle.typst_tokens.specs.declared.hull.Hull.{Hull}
-use Rattle.typst_tokens.proofs.Moves.{exec-moved}
-use Rattle.typst_lines.specs.Classes.{CharClasses}
-use Rattle.typst_lexer.specs.Nodes.{token_node}
-use Rattle.typst_tokens.specs.declared.token.Token.{Token}
+use Rattle.typst_language.proofs.Cited.{◌≡◌, ℕ, ◌+◌, List, [], ◌∷◌, ◌++◌, ap, sym, ◌∙◌, arith, is_error, Place, moved, Tree, text_of, exec, eaten, look, hull_of, Hull, CharClasses, token_node, Token, token_so, Point, Hand, text_ahead, token_by, len_by, with_hull, Making, made, after_node, eat_so, so, takes_so, does, Level, node_by, reader_so, renewed, run, View, Ran, Goes, Does, Fits, Bare, Looked, unasked, end_of, exec-moved}
 use Rattle.typst_language.specs.declared.calls.Way.{Way}
-use Rattle.typst_language.specs.Calls.{token_so}
-use Rattle.typst_language.specs.Point.{Point}
-use Rattle.typst_language.specs.Hand.{Hand, text_ahead, token_by, len_by}
-use Rattle.typst_language.specs.Log.{with_hull}
-use Rattle.typst_language.specs.Shape.{Making, made, after_node}
-use Rattle.typst_language.specs.Steps.{eat_so}
-use Rattle.typst_language.specs.Syntax.Op.{so, takes_so}
-use Rattle.typst_language.specs.Syntax.Parser.{does}
-use Rattle.typst_language.specs.Meaning.{Level, node_by, reader_so, renewed, run}
-use Rattle.typst_language.specs.View.{View, Ran, Goes, Does, Fits, Bare, Looked, unasked}
 use Rattle.typst_language.specs.Ways.{GaveUpTo}
 use Rattle.typst_language.proofs.Places.{moved-sum, moved-min, less-none, no-end}
-use Rattle.typst_language.specs.Remembered.{end_of}
 use Rattle.typst_language.proofs.Knowing.{end-moved, knows-at}
 use Rattle.typst_language.proofs.Runs.{asked-same, asked-then, fits-more}
 use Rattle.typst_language.proofs.Steps.{does-next, does-gives, does-look}

@@ -1,29 +1,7 @@
 -- What the parser of the code does to the token at hand.
-use Rattle.std.proofs.Common.{Some, None, ◌≡◌, ◌≤◌, ℕ, ◌+◌, ◌-◌, Bool, true, false, if◌then◌else◌, List, [], ◌∷◌, ◌++◌, length, length-append, refl, ap, arith}
-use Rattle.typst_kinds.specs.Kinds.{is_error}
-use Rattle.typst_lines.specs.Place.{Place, moved}
-use Rattle.typst_lines.specs.Scanner.{place}
-use Rattle.typst_tree.specs.Tree.{Tree, text_of}
-use Rattle.typst_lines.specs.Classes.{CharClasses}
-use Rattle.typst_tokens.specs.Sight.{position}
-use Rattle.typst_language.specs.declared.calls.Mark.{Mark}
+use Rattle.typst_language.proofs.Cited.{Some, None, ◌≡◌, ◌≤◌, ℕ, ◌+◌, ◌-◌, Bool, true, false, if◌then◌else◌, List, [], ◌∷◌, ◌++◌, length, length-append, refl, ap, arith, is_error, Place, moved, place, Tree, text_of, CharClasses, position, Mark, Reading, Point, Trivia, state_of, Hand, column_at, judged, hand_at, known_by, with_hull, Making, count_empty, after_node, note, column, takes, does, Level, less, same_mode, same_rule, taken_node, column_hull, token_hull, whole_at, view_of, Stands, ReadAhead, View, Goes, Does, Fits, Bare, Looked, Left, unasked, noted_here, with_noted}
 use Rattle.typst_language.specs.declared.reading.AtNewline.{AtNewline}
-use Rattle.typst_language.specs.declared.reading.Reading.{Reading}
-use Rattle.typst_language.specs.Point.{Point, Trivia, is_nil, state_of}
-use Rattle.typst_language.specs.Hand.{Hand, column_at, judged, hand_at, known_by}
-use Rattle.typst_language.specs.Log.{with_hull}
-use Rattle.typst_language.specs.Shape.{Making, count_empty, after_node}
-use Rattle.typst_language.specs.Steps.{note}
-use Rattle.typst_language.specs.Syntax.Op.{column, takes}
-use Rattle.typst_language.specs.Syntax.Parser.{does}
-use Rattle.typst_language.specs.Meaning.{Level, flushed_state, less, same_mode, same_rule, taken_node}
 use Rattle.typst_language.specs.declared.parser.Parser.TheInside.{Inside}
-use Rattle.typst_language.specs.Bytes.{column_hull, token_hull, whole_at}
-use Rattle.typst_language.specs.Cursor.{view_of}
-use Rattle.typst_language.specs.AheadCursor.{Stands}
-use Rattle.typst_language.specs.declared.ahead.ReadAhead.{ReadAhead}
-use Rattle.typst_language.specs.View.{View, Goes, Does, Fits, Bare, Looked, Left, unasked, noted_here}
-use Rattle.typst_language.specs.Noted.{with_noted}
 use Rattle.typst_language.proofs.Logs.{logged-none, logged-some}
 use Rattle.typst_language.proofs.Runs.{column_seen, fits-looked, asked-log}
 use Rattle.typst_language.proofs.Steps.{does-note, does-column, does-takes}
@@ -46,16 +24,6 @@ pub looked-is : (l : Level) (v w : View) → w.nodes ≡ v.nodes → w.place ≡
     → w.own ≡ token_hull l.classes v.state.held.mode (moved w.hand.gap v.place) → w.here ≡ column_hull v.state.held w.hand.newlines (moved w.hand.gap v.place) w.own
     → w.log ≡ with_hull (whole_at l.classes v.state.held v.place) v.log → w.memo ≡ v.memo → Looked l (unasked v) w
 looked-is l v w n p s h o i j m = grind (arith, logged-none)
-
-pub flushed-none : (h : Hand) (s : Point) (ts : List Tree) → is_nil ts ≡ true → h.trivia ≡ ts → flushed_state h s ≡ record s { known = Some (record { nodes = []; gap = 0; newlines = h.newlines }) }
-flushed-none h s ts n e = grind arith
-
-pub flushed-some : (h : Hand) (s : Point) (ts : List Tree) → is_nil ts ≡ false → h.trivia ≡ ts
-    → flushed_state h s ≡ record s { empties = 0; is_after_error = false; known = Some (record { nodes = []; gap = 0; newlines = h.newlines }) }
-flushed-some h s ts n e = grind arith
-
-pub nil-is : (ts : List Tree) → is_nil ts ≡ true → ts ≡ []
-nil-is ts e = grind arith
 
 -- after another mode the token was read again
 pub left-again : (l : Level) (outer : Reading) (v w : View) → same_mode v.state.reading.mode outer.mode ≡ false

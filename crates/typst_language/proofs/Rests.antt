@@ -1,23 +1,7 @@
 -- After a parser the reading is the one before it, and the token at hand is read in it or as before.
-use Rattle.std.proofs.Common.{◌≡◌, ◌⊎◌, inl, inr, ℕ, zero, suc, Bool, true, false, ◌&&◌, if◌then◌else◌, nat_lt, List, [], ◌∷◌, Option, refl, ap, ◌∙◌}
-use Rattle.std.proofs.Common.{arith}
-use Rattle.typst_kinds.specs.declared.mode.SyntaxMode.{SyntaxMode}
-use Rattle.typst_lines.specs.Place.{Place, moved}
+use Rattle.typst_language.proofs.Cited.{◌≡◌, ◌⊎◌, inl, inr, ℕ, zero, suc, Bool, true, false, ◌&&◌, if◌then◌else◌, nat_lt, List, [], ◌∷◌, Option, refl, ap, ◌∙◌, arith, Place, moved, on, Block, Call, Reading, Point, Shape, after_node, after_shape, Op, Begin, Parser, hand, so, further, column, erred, takes, takes_so, flushes, complains, advises, marks, is_deepest, gives, does, next, pick, repeat, wraps, grows, nests, scoped, either, calls, block, Hand, Ask, Outcome, Meaning, Level, joined, answered, turns, as_last, bound, repeated, before, inside, grown, is_more, growths, growing, nestings, nesting, given_up, entered, left, hand_of, hand_asks_of, gave, taken_node, done, run}
 use Rattle.typst_lexer.specs.Tree.{Tree}
-use Rattle.typst_lines.proofs.Bools.{on}
-use Rattle.typst_language.specs.declared.reading.AtNewline.{AtNewline}
-use Rattle.typst_language.specs.declared.calls.Block.{Block}
-use Rattle.typst_language.specs.Calls.{Call}
-use Rattle.typst_language.specs.declared.reading.Reading.{Reading}
-use Rattle.typst_language.specs.Point.{Point}
-use Rattle.typst_language.specs.Shape.{Shape, after_node, after_shape}
-use Rattle.typst_language.specs.Syntax.{Op, Begin, Parser}
-use Rattle.typst_language.specs.Syntax.Op.{hand, so, further, column, erred, takes, takes_so, flushes, complains, advises, marks, is_deepest}
-use Rattle.typst_language.specs.Syntax.Parser.{gives, does, next, pick, repeat, wraps, grows, nests, scoped, either, calls, block}
-use Rattle.typst_language.specs.Hand.{Hand}
-use Rattle.typst_language.specs.Ask.{Ask}
 use Rattle.typst_language.proofs.Within.{grew}
-use Rattle.typst_language.specs.Meaning.{Outcome, Meaning, Level, joined, answered, turns, as_last, bound, repeated, before, inside, grown, is_more, growths, growing, nestings, nesting, given_up, same_mode, same_rule, entered, left, hand_of, hand_asks_of, gave, taken_node, done, run}
 
 pub record Rests (r h : Reading) (s : Point) : Type 0 where
   pub reading : s.reading ≡ r
@@ -59,12 +43,6 @@ like-flushed : (s : Point) (ts : List Tree) → Alike s (elim ts as (λ _. Point
 like-flushed s ts = grind arith
 
 -- ---- leaving a reading
-
-pub mode-is : (a b : SyntaxMode) → same_mode a b ≡ true → a ≡ b
-mode-is a b h = grind arith
-
-pub rule-is : (a b : AtNewline) → same_rule a b ≡ true → a ≡ b
-rule-is a b h = grind arith
 
 on_if : {A : Type 0} (P : A → Type 0) (b : Bool) (x y : A) → (b ≡ true → P x) → (b ≡ false → P y) → P (if b then x else y)
 on_if P true x y p q = p refl

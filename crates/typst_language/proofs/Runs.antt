@@ -1,29 +1,5 @@
 -- How runs of the code compose.
-use Rattle.std.proofs.Common.{Option, ◌≡◌, ℕ, suc, ◌+◌, ◌-◌, ◌<◌, ◌≤◌, ◌==◌, Bool, true, false, ◌&&◌, nat_lt, if◌then◌else◌, List, [], ◌∷◌, ◌++◌, length, map, take, drop, append_assoc, refl, ap, sym, ◌∙◌, subst, arith, rules}
-use borrow.Author.Tests.{lt-ltb}
-use Rattle.typst_kinds.specs.Kinds.{is_error}
-use Rattle.typst_lines.specs.Place.{Place, moved}
-use Rattle.typst_tree.specs.Tree.{Tree, text_of, error_of}
-use Rattle.typst_lines.specs.Classes.{CharClasses}
-use Rattle.typst_tokens.specs.Sight.{hull_of}
-use Rattle.typst_tokens.specs.declared.hull.Hull.{Hull}
-use Rattle.typst_language.specs.declared.calls.Mark.{Mark}
-use Rattle.typst_language.specs.declared.reading.Newlines.{Newlines}
-use Rattle.typst_language.specs.declared.reading.Reading.{Reading}
-use Rattle.typst_language.specs.Calls.{Call, Answer}
-use Rattle.typst_language.specs.Point.{Point, Trivia, gap_of, state_of}
-use Rattle.typst_language.specs.Ask.{Ask}
-use Rattle.typst_language.specs.Hand.{Hand, as_at_hand, hand_at, column_at, column_look}
-use Rattle.typst_language.specs.Log.{Log, logged, with_hull, with_note}
-use Rattle.typst_language.specs.Shape.{Making, Shape, NodeChange, after_node, after_change, after_shape, changed, hinted, seen}
-use Rattle.typst_language.specs.Shape.Shape.{keeps, holds, lacks, warns, fails}
-use Rattle.typst_language.specs.Sound.{Sound}
-use Rattle.typst_language.specs.Syntax.{Parser, Begin}
-use Rattle.typst_language.specs.Syntax.Op.{hand, column, erred, takes, flushes, complains, marks, is_deepest}
-use Rattle.typst_language.specs.Syntax.Parser.{gives, does, next, pick, repeat, wraps, scoped, calls}
-use Rattle.typst_language.specs.Meaning.{Outcome, Meaning, Level, asked, before, bound, plain, less, followed, turns, repeated, inside, reshaped, entered, left, renewed, flushed_state, taken_node, hand_asks_of, run}
-use Rattle.typst_language.specs.Bytes.{bytes_left, token_hull, column_hull}
-use Rattle.typst_language.specs.View.{View, Runs, Ran, at, Fits, Bare, Looked, Flushed, Rewrapped}
+use Rattle.typst_language.proofs.Cited.{Option, ◌≡◌, ℕ, suc, ◌+◌, ◌-◌, ◌<◌, ◌≤◌, ◌==◌, Bool, true, false, ◌&&◌, nat_lt, if◌then◌else◌, List, [], ◌∷◌, ◌++◌, length, map, take, drop, append_assoc, refl, ap, sym, ◌∙◌, subst, arith, rules, lt-ltb, is_error, Place, moved, Tree, text_of, error_of, CharClasses, hull_of, Hull, Mark, Newlines, Reading, Call, Answer, Point, Trivia, gap_of, state_of, Ask, Hand, as_at_hand, hand_at, column_at, column_look, Log, logged, with_hull, with_note, Making, Shape, NodeChange, after_node, after_change, after_shape, changed, hinted, seen, keeps, holds, lacks, warns, fails, Sound, Parser, Begin, hand, column, erred, takes, flushes, complains, marks, is_deepest, gives, does, next, pick, repeat, wraps, scoped, calls, Outcome, Meaning, Level, asked, before, bound, plain, less, followed, turns, repeated, inside, reshaped, entered, left, renewed, flushed_state, taken_node, hand_asks_of, run, bytes_left, token_hull, column_hull, View, Runs, Ran, at, Fits, Bare, Looked, Flushed, Rewrapped, Knows, end_of}
 use Rattle.typst_language.proofs.Places.{moved-sum, take-both, drop-both, take-all, drop-all, less-none, length-less, no-end}
 use Rattle.typst_language.proofs.HintedNodes.{standing-joined, length-hinted}
 use Rattle.typst_language.proofs.Within.{turns-enough, within-run}
@@ -31,7 +7,6 @@ use Rattle.typst_language.proofs.Backs.{backs-run}
 use Rattle.typst_language.proofs.Bytes.{some-bytes, none-bytes}
 use Rattle.typst_language.proofs.Logs.{logged-append, logged-shift, logged-sunk, logged-some, hand-among, is-among}
 use Rattle.typst_language.proofs.Trivia.{hand-known, gap-there}
-use Rattle.typst_language.specs.Remembered.{Knows, end_of}
 use Rattle.typst_language.proofs.Knowing.{end-moved, knows-at}
 
 pub runs-plain : {A : Type 0} (n : ℕ) (a b : A) (v : View) → a ≡ b → Runs n (plain a v.state) b v v

@@ -1,24 +1,5 @@
 -- How steps of the code compose, most of which begin and end with the right token at hand.
-use Rattle.std.proofs.Common.{Option, None, ◌≡◌, ℕ, ◌+◌, ◌<◌, ◌≤◌, ◌==◌, Bool, true, false, List, [], ◌∷◌, ◌++◌, length, map, drop, ap, sym, ◌∙◌, subst, arith}
-use Rattle.typst_kinds.specs.declared.kind.SyntaxKind.{SyntaxKind}
-use Rattle.typst_lines.specs.Place.{moved}
-use Rattle.typst_tree.specs.Tree.{Tree, error_of}
-use Rattle.typst_language.specs.declared.calls.Mark.{Mark}
-use Rattle.typst_language.specs.declared.reading.Reading.{Reading}
-use Rattle.typst_language.specs.Calls.{Call, Answer}
-use Rattle.typst_language.specs.Point.{Point, Trivia, gap_of, pending, is_nil, state_of}
-use Rattle.typst_language.specs.Log.{with_note}
-use Rattle.typst_language.specs.Hand.{as_at_hand, column_at}
-use Rattle.typst_language.specs.Shape.{Making, Shape, becomes, seen}
-use Rattle.typst_language.specs.Sound.{Sound}
-use Rattle.typst_language.specs.Syntax.{Parser, Begin}
-use Rattle.typst_language.specs.Syntax.Op.{column, erred, takes, complains, marks, is_deepest}
-use Rattle.typst_language.specs.Syntax.Parser.{gives, does, next, pick, repeat, wraps, scoped, calls}
-use Rattle.typst_language.specs.Steps.{peek, eat_making, flush_trivia, within, node, node_with_trivia, note}
-use Rattle.typst_language.specs.Meaning.{Level, before, entered, left}
-use Rattle.typst_language.specs.Bytes.{bytes_left}
-use Rattle.typst_language.specs.View.{View, Ran, Goes, Does, Makes, Fits, Bare, Loose, Looked, Left, Flushed, Rewrapped, unasked, noted_here}
-use Rattle.typst_language.specs.Remembered.{Knows, end_of}
+use Rattle.typst_language.proofs.Cited.{Option, None, ◌≡◌, ℕ, ◌+◌, ◌<◌, ◌≤◌, ◌==◌, Bool, true, false, List, [], ◌∷◌, ◌++◌, length, map, drop, ap, sym, ◌∙◌, subst, arith, SyntaxKind, moved, Tree, error_of, Mark, Reading, Call, Answer, Point, Trivia, gap_of, pending, is_nil, state_of, with_note, as_at_hand, column_at, Making, Shape, becomes, seen, Sound, Parser, Begin, column, erred, takes, complains, marks, is_deepest, gives, does, next, pick, repeat, wraps, scoped, calls, peek, eat_making, flush_trivia, within, node, node_with_trivia, note, Level, before, entered, left, bytes_left, View, Ran, Goes, Does, Makes, Fits, Bare, Loose, Looked, Left, Flushed, Rewrapped, unasked, noted_here, Knows, end_of}
 use Rattle.typst_language.proofs.Knowing.{knows-at}
 use Rattle.typst_language.proofs.Runs.{ran-next, ran-gives, ran-calls, ran-pick, ran-other, ran-hand, ran-column, ran-erred, ran-deepest, ran-marks, Eaten, ran-takes, eaten-bare, ran-flushes, flushed-fits, ran-complains, ran-scoped, ran-wraps, rewrapped-fits, ran-turn, ran-last, looked-fits, ran-look, column_seen, fits-more, noted}
 

@@ -1,22 +1,5 @@
 -- Where an outcome ends, and what was looked at for it.
-use Rattle.std.proofs.Common.{◌≡◌, ℕ, ◌+◌, true, false, List, [], ◌∷◌, ◌++◌, map, None, refl, ap, ◌∙◌, arith}
-use Rattle.typst_lines.specs.Place.{Place, moved}
-use Rattle.typst_tokens.specs.Sight.{hull_of}
-use Rattle.typst_tokens.specs.declared.hull.Hull.{Hull}
-use Rattle.typst_language.specs.declared.reading.Reading.{Reading}
-use Rattle.typst_language.specs.Ask.{Ask, shift}
-use Rattle.typst_language.specs.Ask.Ask.{looked, marked}
-use Rattle.typst_language.specs.Bytes.{LiesIn}
-use Rattle.typst_language.specs.Hand.{as_at_hand}
-use Rattle.typst_language.specs.Meaning.{Level, asked, before, entered, hand_asks_of, hand_of, inside, left, run}
-use Rattle.typst_lexer.specs.Nodes.{is_leaf}
-use Rattle.typst_language.specs.Point.{Point}
-use Rattle.typst_language.specs.Remembered.{LooksIn}
-use Rattle.typst_language.specs.Shape.{Shape, after_shape, seen}
-use Rattle.typst_language.specs.Shape.Making.{itself}
-use Rattle.typst_language.specs.Syntax.{Begin, Parser}
-use Rattle.typst_language.specs.Syntax.Op.{hand, takes}
-use Rattle.typst_language.specs.Syntax.Parser.{does, gives, next, scoped, wraps}
+use Rattle.typst_language.proofs.Cited.{◌≡◌, ℕ, ◌+◌, true, false, List, [], ◌∷◌, ◌++◌, map, None, refl, ap, ◌∙◌, arith, Place, moved, hull_of, Hull, Reading, Ask, shift, looked, marked, LiesIn, as_at_hand, Level, asked, before, entered, hand_asks_of, hand_of, inside, left, run, is_leaf, Point, LooksIn, Shape, after_shape, seen, itself, Begin, Parser, hand, takes, does, gives, next, scoped, wraps}
 use Rattle.typst_language.proofs.Places.{moved-sum}
 
 -- where each look lies

@@ -1,34 +1,9 @@
 -- Reading trivia one after the other.
-use lib.Utf8.{encode}
-use Rattle.std.proofs.Common.{Option, Some, None, ◌≡◌, ℕ, zero, suc, ◌+◌, ◌-◌, ◌<◌, ◌≤◌, Bool, true, false, ◌&&◌, ◌||◌, nat_lt, List, [], ◌∷◌, ◌++◌, length, take, slice_get, reverse, append_assoc, append-nil, refl, ap, sym, ◌∙◌, subst, arith}
+use Rattle.typst_language.proofs.Cited.{encode, Option, Some, None, ◌≡◌, ℕ, zero, suc, ◌+◌, ◌-◌, ◌<◌, ◌≤◌, Bool, true, false, ◌&&◌, ◌||◌, nat_lt, List, [], ◌∷◌, ◌++◌, length, take, slice_get, reverse, append_assoc, append-nil, refl, ap, sym, ◌∙◌, subst, arith, ltb-true, chars-nil, chars, SyntaxMode, SyntaxKind, Place, moved, place_at, scout, Tree, leaf_of, CharClasses, token_node, Hull, Token, Newlines, Reading, is_trivia, Trivia, gap_of, no_newlines, Hand, Ahead, text_ahead, token_at, len_at, at_trivia, both_newlines, newlines_of, direct, after_trivia, ahead_by, ahead, column_at, judged, hand_at, known_by, joined_hull, token_hull, tokens_by, tokens_at, column_hull, whole_at, exec, eaten, token, place, Scanner, IsAhead, distance, bytes_left, exec-moved}
 use Rattle.std.proofs.Math.Bool.{or_assoc}
-use borrow.Author.Tests.{ltb-true}
-use Rattle.std.proofs.lemmas.Str.{chars-nil}
-use Rattle.std.specs.Str.{chars}
-use Rattle.typst_kinds.specs.declared.mode.SyntaxMode.{SyntaxMode}
-use Rattle.typst_kinds.specs.declared.kind.SyntaxKind.{SyntaxKind}
 use Rattle.typst_kinds.specs.declared.kind.SyntaxKind.TheVariants as kind
-use Rattle.typst_lines.specs.Place.{Place, moved, place_at, scout}
-use Rattle.typst_tree.specs.Tree.{Tree, leaf_of}
-use Rattle.typst_lines.specs.Classes.{CharClasses}
-use Rattle.typst_lexer.specs.Nodes.{token_node}
-use Rattle.typst_tokens.specs.declared.hull.Hull.{Hull}
 use Rattle.typst_tokens.specs.Token.{plain}
-use Rattle.typst_tokens.specs.declared.token.Token.{Token}
-use Rattle.typst_language.specs.declared.reading.Newlines.{Newlines}
-use Rattle.typst_language.specs.declared.reading.Reading.{Reading}
-use Rattle.typst_kinds.specs.Kinds.{is_trivia}
-use Rattle.typst_language.specs.Point.{Trivia, gap_of, no_newlines}
-use Rattle.typst_language.specs.Hand.{Hand, Ahead, text_ahead, token_at, len_at, at_trivia, both_newlines, newlines_of, direct, after_trivia, ahead_by, ahead, column_at, judged, hand_at, known_by}
-use Rattle.typst_language.specs.Bytes.{joined_hull, token_hull, tokens_by, tokens_at, column_hull, whole_at}
-use Rattle.typst_tokens.specs.Reader.{exec, eaten}
-use Rattle.typst_lexer.specs.Tokens.{token}
-use Rattle.typst_tokens.proofs.Moves.{exec-moved}
-use Rattle.typst_lines.specs.Scanner.{place}
 use Rattle.typst_language.specs.declared.ahead.ReadAhead.{ReadAhead as Front}
-use Rattle.typst_lines.specs.declared.scanner.Scanner.{Scanner}
-use Rattle.typst_language.specs.AheadCursor.{IsAhead, distance}
-use Rattle.typst_language.specs.Bytes.{bytes_left}
 use Rattle.typst_language.proofs.Bytes.{none-bytes}
 use Rattle.typst_language.proofs.Hulls.{In, second-in, first-in, same-hull}
 use Rattle.typst_language.proofs.Places.{moved-sum, moved-min, moved-before, ahead-left}

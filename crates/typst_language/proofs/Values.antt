@@ -1,10 +1,5 @@
 -- How the code of a production composes.
-use Rattle.std.proofs.Common.{◌≡◌, sym, subst, arith}
-use Rattle.typst_language.specs.declared.reading.Reading.{Reading}
-use Rattle.typst_language.specs.Meaning.{Level, entered}
-use Rattle.typst_language.specs.Syntax.{Parser}
-use Rattle.typst_language.specs.Steps.{within}
-use Rattle.typst_language.specs.View.{View, Goes, Does, Left}
+use Rattle.typst_language.proofs.Cited.{◌≡◌, sym, subst, arith, Reading, Level, entered, Parser, within, View, Goes, Does, Left}
 use Rattle.typst_language.proofs.Steps.{does-within}
 
 -- the same answer in other words

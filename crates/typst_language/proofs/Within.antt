@@ -1,24 +1,6 @@
 -- No more is taken than there is, and no more turns are made than there are characters.
-use Rattle.std.proofs.Common.{Some, ◌≡◌, ℕ, zero, suc, ◌+◌, ◌<◌, ◌≤◌, Bool, true, false, ◌&&◌, if◌then◌else◌, nat_lt, length, refl, ap, arith, List, None, Option, max}
-use borrow.Author.Tests.{ltb-true}
-use Rattle.typst_kinds.specs.declared.mode.SyntaxMode.{SyntaxMode}
-use Rattle.typst_lines.specs.Place.{Place, moved}
-use Rattle.typst_lines.specs.Classes.{CharClasses}
+use Rattle.typst_language.proofs.Cited.{Some, ◌≡◌, ℕ, zero, suc, ◌+◌, ◌<◌, ◌≤◌, Bool, true, false, ◌&&◌, if◌then◌else◌, nat_lt, length, refl, ap, arith, List, None, Option, max, ltb-true, SyntaxMode, Place, moved, CharClasses, Block, Call, Trivia, Point, gap_of, Shape, after_node, after_shape, Reading, Reader, Token, Memory, Ahead, len_at, len_by, at_trivia, ahead_by, ahead, hand_at, Op, Begin, Parser, hand, so, further, column, erred, takes, takes_so, flushes, complains, advises, marks, is_deepest, gives, does, next, pick, repeat, wraps, grows, nests, scoped, either, calls, block, Outcome, Meaning, Level, plain, joined, answered, followed, turns, as_last, bound, repeated, before, inside, reshaped, grown, is_more, growths, growing, nestings, nesting, given_up, bounded, entered, left, reader_so, done, run, Within}
 pub use Rattle.typst_lines.proofs.Bools.{and-second}
-use Rattle.typst_language.specs.declared.calls.Block.{Block}
-use Rattle.typst_language.specs.Calls.{Call}
-use Rattle.typst_language.specs.Point.{Trivia, Point, gap_of}
-use Rattle.typst_language.specs.Shape.{Shape, after_node, after_shape}
-use Rattle.typst_language.specs.declared.reading.Reading.{Reading}
-use Rattle.typst_tokens.specs.Reader.{Reader}
-use Rattle.typst_tokens.specs.declared.token.Token.{Token}
-use Rattle.typst_tokens.specs.Memory.{Memory}
-use Rattle.typst_language.specs.Hand.{Ahead, len_at, len_by, at_trivia, ahead_by, ahead, hand_at}
-use Rattle.typst_language.specs.Syntax.{Op, Begin, Parser}
-use Rattle.typst_language.specs.Syntax.Op.{hand, so, further, column, erred, takes, takes_so, flushes, complains, advises, marks, is_deepest}
-use Rattle.typst_language.specs.Syntax.Parser.{gives, does, next, pick, repeat, wraps, grows, nests, scoped, either, calls, block}
-use Rattle.typst_language.specs.Meaning.{Outcome, Meaning, Level, plain, joined, answered, followed, turns, as_last, bound, repeated, before, inside, reshaped, grown, is_more, growths, growing, nestings, nesting, given_up, bounded, entered, left, reader_so, done, run}
-use Rattle.typst_language.specs.Sound.{Within}
 use Rattle.typst_lexer.specs.Tree.{Tree}
 use Rattle.typst_language.proofs.Places.{ahead-left, moved-sum}
 

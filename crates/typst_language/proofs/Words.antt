@@ -1,15 +1,5 @@
 -- The token further on, hints, and names that were expected.
-use Rattle.std.proofs.Common.{◌≡◌, ℕ, ◌+◌, List, [], ◌∷◌, append-nil, refl, ap, sym, ◌∙◌, arith}
-use Rattle.typst_kinds.specs.declared.kind.SyntaxKind.{SyntaxKind}
-use Rattle.typst_lines.specs.Place.{moved}
-use Rattle.typst_language.specs.Hand.{token_at}
-use Rattle.typst_language.specs.Log.{with_hull}
-use Rattle.typst_language.specs.Shape.{hinted, hinted_last}
-use Rattle.typst_language.specs.Syntax.Op.{further, advises}
-use Rattle.typst_language.specs.Syntax.Parser.{does}
-use Rattle.typst_language.specs.Meaning.{Level, run}
-use Rattle.typst_language.specs.Bytes.{token_hull}
-use Rattle.typst_language.specs.View.{View, Ran, Does, Fits}
+use Rattle.typst_language.proofs.Cited.{◌≡◌, ℕ, ◌+◌, List, [], ◌∷◌, append-nil, refl, ap, sym, ◌∙◌, arith, SyntaxKind, moved, token_at, with_hull, hinted, hinted_last, further, advises, does, Level, run, token_hull, View, Ran, Does, Fits}
 use Rattle.typst_language.proofs.Places.{less-none, no-end}
 use Rattle.typst_language.proofs.Runs.{asked-same, asked-then, fits-more}
 

@@ -1,13 +1,7 @@
 -- Names with fields: what a loop over the names between dots makes, and its text.
-use Rattle.std.proofs.Common.{◌≡◌, ◌<◌, ℕ, suc, ◌+◌, Bool, true, false, not, if◌then◌else◌, ◌==◌, List, [], ◌∷◌, ◌++◌, length, take, codes, encode_utf8_all, refl, ap, sym, ◌∙◌, append-nil, append_assoc, arith}
-use Rattle.std.proofs.lemmas.Str.{encodes-append}
-use Rattle.std.specs.List.{prefix_len}
-use Rattle.std.specs.Str.{chars}
+use Rattle.typst_lexer.proofs.Cited.{◌≡◌, ◌<◌, ℕ, suc, ◌+◌, Bool, true, false, not, if◌then◌else◌, ◌==◌, List, [], ◌∷◌, ◌++◌, length, take, codes, encode_utf8_all, refl, ap, sym, ◌∙◌, append-nil, append_assoc, arith, encodes-append, prefix_len, chars, Place, place_at, moved, moved_from, passes, past, run, scout, moved-less, past-stops, longer, names_of, name_node, field_node, fields_node, named_node, access_node}
 use Rattle.typst_kinds.specs.declared.kind.SyntaxKind.TheVariants as kind
-use Rattle.typst_tokens.proofs.PairRuns.{moved-less, past-stops}
-use Rattle.typst_lines.specs.Place.{Place, place_at, moved, moved_from, passes, past, run, scout}
 use Rattle.typst_tree.specs.Tree.{Tree, forest, leaf_of, inner_of, text_of}
-use Rattle.typst_lexer.specs.Fields.{longer, names_of, name_node, field_node, fields_node, named_node, access_node}
 
 abbrev pub no_dot : ℕ → Bool
 no_dot c = not (c == 46)

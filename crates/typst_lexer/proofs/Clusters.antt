@@ -1,20 +1,6 @@
 -- Clusters, in one piece.
-use Rattle.std.proofs.Common.{◌≡◌, ◌≤◌, ◌<◌, ◌+◌, ℕ, zero, suc, Bool, true, false, ◌==◌, List, [], ◌∷◌, length, take, refl, sym, ap, subst, ◌∙◌, arith, length-append, if◌then◌else◌}
-use Rattle.std.proofs.lemmas.Bool.Decides.{nat_tests}
-use Rattle.std.proofs.lemmas.List.{length-take}
-use Rattle.std.proofs.lemmas.Str.{encodes-chars, length-encode, scalars-chars}
-use Rattle.std.specs.List.{prefix_len, list_all}
-use Rattle.std.specs.Prelude.{encode_utf8, encode_utf8_all}
-use Rattle.std.specs.Str.{chars, IsUtf8}
-use Rattle.typst_lines.proofs.LineCluster.{IsLine-run, cluster-bytes}
-use Rattle.typst_lines.specs.Classes.{CharClasses, IsLine, IsLawful, in_line}
-use Rattle.typst_lines.proofs.Empty.{none-is}
+use Rattle.typst_lexer.proofs.Cited.{◌≡◌, ◌≤◌, ◌<◌, ◌+◌, ℕ, zero, suc, Bool, true, false, ◌==◌, List, [], ◌∷◌, length, take, refl, sym, ap, subst, ◌∙◌, arith, length-append, if◌then◌else◌, nat_tests, length-take, encodes-chars, length-encode, scalars-chars, prefix_len, list_all, chars, IsUtf8, CharClasses, IsLine, IsLawful, in_line, none-is, Place, run, bytes_ahead, cluster_len, cluster, Sight, saw, went, sight, plain, Token, IsLine-run, cluster-bytes, encode_utf8, encode_utf8_all}
 use Rattle.typst_kinds.specs.declared.kind.SyntaxKind.TheVariants as kind
-use Rattle.typst_lines.specs.Place.{Place, run, bytes_ahead}
-use Rattle.typst_lexer.specs.Atoms.{cluster_len, cluster}
-use Rattle.typst_tokens.specs.Sight.{Sight, saw, went, sight}
-use Rattle.typst_tokens.specs.Token.{plain}
-use Rattle.typst_tokens.specs.declared.token.Token.{Token}
 
 all-on : (test : ℕ → Bool) (c : ℕ) (cs : List ℕ) (b : Bool) → test c ≡ b → list_all test (take (prefix_len test cs) cs) ≡ true → list_all test (take (if b then 1 + prefix_len test cs else 0) (c ∷ cs)) ≡ true
 all-on test c cs true e h = let one : 1 + prefix_len test cs ≡ suc (prefix_len test cs) = omega arith in rw (one, e) h

@@ -1,25 +1,10 @@
 -- A token of a formula takes at least one character.
-use Rattle.std.proofs.Common.{◌≡◌, ◌≤◌, ◌<◌, ℕ, suc, Bool, true, ◌==◌, ◌||◌, List, [], ◌∷◌, length, nat_lt, codes, arith, subst, sym, refl, Option, Some, None, ltb-true}
-use Rattle.std.specs.List.{list_all}
-use Rattle.typst_lines.specs.Classes.{CharClasses, in_line}
+use Rattle.typst_lexer.proofs.Cited.{◌≡◌, ◌≤◌, ◌<◌, ℕ, suc, Bool, true, ◌==◌, ◌||◌, List, [], ◌∷◌, length, nat_lt, codes, arith, subst, sym, refl, Option, Some, None, ltb-true, list_all, CharClasses, in_line, Place, scout, passes, run, primes, atom, by_class, single, math_from, math, continues, name, Reader, at_word, eaten, sign, Memory, plain, Token, string, and-first, and-second, answer, skip, either, some-ahead, line-eats, run-ahead, backslash}
 use Rattle.typst_lines.specs.declared.classes.MathClass.{MathClass}
-use Rattle.typst_tokens.specs.Strings.{string}
 use Rattle.typst_kinds.specs.declared.kind.SyntaxKind.{SyntaxKind}
 use Rattle.typst_kinds.specs.declared.kind.SyntaxKind.TheVariants as kind
-use Rattle.typst_lines.proofs.Bools.{and-first, and-second}
-use Rattle.typst_lines.specs.Place.{Place, scout, passes, run}
 use Rattle.typst_lexer.specs.Atoms.{cluster_len, cluster, number, text}
-use Rattle.typst_lexer.specs.Math.{primes, atom, by_class, single, math_from, math}
-use Rattle.typst_lexer.specs.MathNames.{continues, name}
 use Rattle.typst_lexer.specs.Shorthands.{any_word, hyphen, tilde, colon, equals, greater, less_short, less_middle, less, bar, bracket, bang, dot, several}
-use Rattle.typst_tokens.specs.Reader.{Reader, at_word, eaten}
-use Rattle.typst_tokens.specs.Reader.Reader.{answer, skip}
-use Rattle.typst_tokens.proofs.CommonEats.{either, some-ahead, line-eats, run-ahead}
-use Rattle.typst_tokens.specs.Common.{sign}
-use Rattle.typst_tokens.specs.Escapes.{backslash}
-use Rattle.typst_tokens.specs.Memory.{Memory}
-use Rattle.typst_tokens.specs.Token.{plain}
-use Rattle.typst_tokens.specs.declared.token.Token.{Token}
 
 word-eats : (n : ℕ) (word : List ℕ) (found other : Reader Memory Token) (p : Place) → 1 ≤ eaten found p → 1 ≤ eaten other p → 1 ≤ eaten (at_word n word found other) p
 word-eats n [] found other p f o = f

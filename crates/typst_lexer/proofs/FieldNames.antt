@@ -1,23 +1,12 @@
 -- Names and their fields, in one piece.
-use Rattle.std.proofs.Common.{◌≡◌, ◌≤◌, ◌<◌, ◌+◌, ◌==◌, ℕ, suc, Bool, true, false, ◌&&◌, if◌then◌else◌, List, [], ◌∷◌, length, slice_get, refl, ap, ◌∙◌, arith, Some}
-use Rattle.std.specs.List.{prefix_len}
-use Rattle.typst_lines.specs.Classes.{CharClasses}
+use Rattle.typst_lexer.proofs.Cited.{◌≡◌, ◌≤◌, ◌<◌, ◌+◌, ◌==◌, ℕ, suc, Bool, true, false, ◌&&◌, if◌then◌else◌, List, [], ◌∷◌, length, slice_get, refl, ap, ◌∙◌, arith, Some, prefix_len, CharClasses, moved, moved_from, passes, scout, continues, is_field, in_fields, after_name, covers-saw, covers-went, far-end, far-next, far-on, same-sight, saw-ahead, Sight, Covers, saw, saw_by, went, went_past, sight, Memory, plain, Token, sight-pairs, past-stops, moved-less, answer, skip}
 use Rattle.typst_kinds.specs.declared.kind.SyntaxKind.TheVariants as kind
-use Rattle.typst_lines.specs.Place.{moved, moved_from, passes, scout}
-use Rattle.typst_lexer.specs.MathNames.{continues, is_field, in_fields, after_name}
-use Rattle.typst_tokens.proofs.PairRuns.{sight-pairs, past-stops, moved-less}
-use Rattle.typst_tokens.proofs.Sights.{covers-saw, covers-went, far-end, far-next, far-on, same-sight, saw-ahead}
 use Rattle.typst_tokens.proofs.Spans.{sight-turn, sight-end}
 use Rattle.typst_tokens.specs.Pairs.{pairs_len}
 use Rattle.typst_tokens.specs.Reader.{place, ask, glimpse, widened, Step, Turn, Reader, eat_span}
-use Rattle.typst_tokens.specs.Reader.Reader.{answer, skip}
 use Rattle.typst_tokens.specs.Reader.Step.{turn, see}
 use Rattle.typst_tokens.specs.Reader.Turn.{leave, go}
-use Rattle.typst_tokens.specs.Sight.{Sight, Covers, saw, saw_by, went, went_past, sight}
-use Rattle.typst_tokens.specs.Memory.{Memory}
 use Rattle.typst_tokens.specs.Memory.Memory.{quoted}
-use Rattle.typst_tokens.specs.Token.{plain}
-use Rattle.typst_tokens.specs.declared.token.Token.{Token}
 
 abbrev pub ended : Memory → Reader Memory Token
 ended memory = answer (plain kind.MathFieldAccess)

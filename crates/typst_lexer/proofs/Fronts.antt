@@ -1,8 +1,5 @@
 -- What a text begins with, in characters and in bytes.
-use Rattle.std.proofs.Common.{List, ℕ, ◌≡◌, ◌∙◌, ◌++◌, sym, ap, refl, length, take, drop, take_at, encode_utf8_all}
-use Rattle.std.proofs.lemmas.List.{take-append-drop}
-use Rattle.std.proofs.lemmas.Str.{encodes-append, encodes-chars}
-use Rattle.std.specs.Str.{IsUtf8, chars}
+use Rattle.typst_lexer.proofs.Cited.{List, ℕ, ◌≡◌, ◌∙◌, ◌++◌, sym, ap, refl, length, take, drop, take_at, encode_utf8_all, take-append-drop, encodes-append, encodes-chars, IsUtf8, chars}
 
 -- where the characters of a text begin those of another, its bytes begin that one's
 pub front-bytes : (text rest : List ℕ) → IsUtf8 text → IsUtf8 rest → take (length (chars text)) (chars rest) ≡ chars text → take (length text) rest ≡ text

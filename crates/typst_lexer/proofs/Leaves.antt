@@ -1,16 +1,8 @@
 -- The leaves of a raw text joined.
-use Rattle.std.proofs.Common.{◌≡◌, ℕ, zero, suc, ◌+◌, Bool, true, false, ◌&&◌, ◌==◌, nat_lt, if◌then◌else◌, List, [], ◌∷◌, ◌++◌, length, take, drop, reverse, Option, Some, None, option_map, refl, sym, ap, ◌∙◌, arith, append_assoc, append-nil}
-use Rattle.std.proofs.lemmas.Bool.Decides.{nat_tests}
-use Rattle.std.proofs.lemmas.List.{take-append-drop, reverse-reverse, reverse-append}
-use Rattle.std.proofs.lemmas.Str.{encodes-append}
-use Rattle.std.specs.Prelude.{encode_utf8_all, codes}
-use Rattle.std.specs.List.{prefix_len}
+use Rattle.typst_lexer.proofs.Cited.{◌≡◌, ℕ, zero, suc, ◌+◌, Bool, true, false, ◌&&◌, ◌==◌, nat_lt, if◌then◌else◌, List, [], ◌∷◌, ◌++◌, length, take, drop, reverse, Option, Some, None, option_map, refl, sym, ap, ◌∙◌, arith, append_assoc, append-nil, nat_tests, take-append-drop, reverse-reverse, reverse-append, encodes-append, prefix_len, RawLine, leaf, trimmed, is_tick, first_line, later_lines, is_blank, dedent, closing, front, line_leaves, first_leaves, block_leaves, inline_leaves, in_tag, tag, warned, ticks, past_ticks, before_ticks, tag_leaves, delimited, inline_node, block_node, closed_node, two_delimiters, delimited_node, raw_node, encode_utf8_all, codes}
 use Rattle.typst_kinds.specs.declared.kind.SyntaxKind.TheVariants as kind
 use Rattle.typst_tree.specs.Tree.{Tree, forest, joined, text_of, error_of}
 use Rattle.typst_lexer.specs.RawLaws.{RawLeaves}
-use Rattle.typst_lexer.specs.RawLines.{RawLine, leaf, trimmed, is_tick, first_line, later_lines, is_blank, dedent, closing, front, line_leaves, first_leaves, block_leaves, inline_leaves}
-use Rattle.typst_lexer.specs.RawTag.{in_tag, tag, warned}
-use Rattle.typst_lexer.specs.Raw.{ticks, past_ticks, before_ticks, tag_leaves, delimited, inline_node, block_node, closed_node, two_delimiters, delimited_node, raw_node}
 use Rattle.typst_lexer.proofs.Rows.{row_chars, lines-joined, front-closing}
 
 -- the texts of some trees

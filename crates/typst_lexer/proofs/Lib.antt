@@ -38,6 +38,7 @@ pub mod Tags
 --   message of an escape                  TokenTexts.thrice
 --   text_laws.TokenText                        TokenTexts.text-token
 pub mod Accesses
+pub mod Cited
 pub mod Fronts
 pub mod Suffixes
 pub mod TokenTexts

@@ -1,19 +1,6 @@
 -- What loops over lines keep.
-use Rattle.std.proofs.Common.{◌≡◌, ℕ, ◌+◌, min, Bool, true, false, not, ◌&&◌, ◌==◌, if◌then◌else◌, List, [], ◌∷◌, ◌++◌, length, take, drop, reverse, slice_get, Some, is_none, refl, sym, ap, ◌∙◌, arith, append_assoc, append-nil, take-add}
-use Rattle.std.proofs.lemmas.List.{take-append-drop, reverse-reverse, reverse-append}
-use Rattle.std.specs.Char.{is_whitespace}
-use Rattle.std.specs.List.{prefix_len}
-use Rattle.std.proofs.lemmas.Bool.Decides.{nat_tests}
-use Rattle.std.proofs.lemmas.Str.{chars-nil, encodes-chars}
-use Rattle.std.specs.Prelude.{find, encode_utf8_all}
-use Rattle.std.specs.Str.{chars, IsUtf8}
-use Rattle.typst_lines.specs.Classes.{in_line}
+use Rattle.typst_lexer.proofs.Cited.{◌≡◌, ℕ, ◌+◌, min, Bool, true, false, not, ◌&&◌, ◌==◌, if◌then◌else◌, List, [], ◌∷◌, ◌++◌, length, take, drop, reverse, slice_get, Some, is_none, refl, sym, ap, ◌∙◌, arith, append_assoc, append-nil, take-add, take-append-drop, reverse-reverse, reverse-append, is_whitespace, prefix_len, nat_tests, chars-nil, encodes-chars, chars, IsUtf8, in_line, is_newline, line_end_len, Place, moved, scout, passes, past, run, IsAfter, moved_back, place, Tree, RawLine, leaf, trimmed, is_tick, first_line, later_lines, last_of, last_raw_line, is_blank, has_spare_space, indent, least_indent, dedent, closing, front, between, line_leaves, first_leaves, block_leaves, inline_leaves, find, encode_utf8_all}
 use Rattle.typst_kinds.specs.declared.kind.SyntaxKind.TheVariants as kind
-use Rattle.typst_lines.specs.Newline.{is_newline, line_end_len}
-use Rattle.typst_lines.specs.Place.{Place, moved, scout, passes, past, run, IsAfter, moved_back}
-use Rattle.typst_lines.specs.Scanner.{place}
-use Rattle.typst_tree.specs.Tree.{Tree}
-use Rattle.typst_lexer.specs.RawLines.{RawLine, leaf, trimmed, is_tick, first_line, later_lines, last_of, last_raw_line, is_blank, has_spare_space, indent, least_indent, dedent, closing, front, between, line_leaves, first_leaves, block_leaves, inline_leaves}
 use Rattle.typst_lexer.specs.LastLine.{IsLastLine}
 use Rattle.typst_lexer.specs.declared.raw_lines.LastLine.{LastLine}
 use Rattle.typst_lexer.proofs.Rows.{row, chars_of, later-none, front-is, front-closing, ends-closing}

@@ -1,21 +1,7 @@
 -- A name's own text.
-use Rattle.std.proofs.Common.{◌≡◌, ◌<◌, ◌+◌, ◌++◌, ◌&&◌, ◌==◌, ℕ, Bool, true, false, not, List, [], ◌∷◌, length, reverse, slice_get, take, refl, sym, ap, subst, ◌∙◌, arith, Some, encode_utf8_all}
-use Rattle.std.proofs.lemmas.Bool.Decides.{nat_tests}
-use Rattle.std.proofs.lemmas.Str.{scalars-chars}
-use Rattle.std.specs.Char.{IsScalar, is_whitespace}
-use Rattle.std.specs.List.{prefix_len, list_all}
-use Rattle.std.specs.Str.{chars, all_scalars, IsUtf8}
-use Rattle.typst_lines.proofs.LineCluster.{line-some, in_line-identifier}
+use Rattle.typst_lexer.proofs.Cited.{◌≡◌, ◌<◌, ◌+◌, ◌++◌, ◌&&◌, ◌==◌, ℕ, Bool, true, false, not, List, [], ◌∷◌, length, reverse, slice_get, take, refl, sym, ap, subst, ◌∙◌, arith, Some, encode_utf8_all, nat_tests, scalars-chars, IsScalar, is_whitespace, prefix_len, list_all, chars, all_scalars, IsUtf8, CharClasses, IsLawful, in_line, is_newline, Place, moved, moved_from, passes, run, scout, continues, named, name, after_name, text-on, Sight, text_of, saw, went, went_past, sight, plain, Token, line-some, in_line-identifier}
 use Rattle.typst_lexer.proofs.Clusters.{all-run}
-use Rattle.typst_lines.specs.Classes.{CharClasses, IsLawful, in_line}
 use Rattle.typst_kinds.specs.declared.kind.SyntaxKind.TheVariants as kind
-use Rattle.typst_lines.specs.Newline.{is_newline}
-use Rattle.typst_lines.specs.Place.{Place, moved, moved_from, passes, run, scout}
-use Rattle.typst_lexer.specs.MathNames.{continues, named, name, after_name}
-use Rattle.typst_tokens.proofs.Sights.{text-on}
-use Rattle.typst_tokens.specs.Sight.{Sight, text_of, saw, went, went_past, sight}
-use Rattle.typst_tokens.specs.Token.{plain}
-use Rattle.typst_tokens.specs.declared.token.Token.{Token}
 
 -- how many characters a name has
 abbrev pub size : CharClasses → Place → ℕ

@@ -1,13 +1,7 @@
 -- Facts on the lines of characters.
-use Rattle.std.proofs.Common.{◌≡◌, ℕ, suc, ◌+◌, ◌-◌, Bool, true, false, ◌&&◌, ◌==◌, List, [], ◌∷◌, ◌++◌, drop, reverse, slice_get, refl, sym, ap, ◌∙◌, arith, append_assoc, append-nil, take_at, length-append}
-use Rattle.std.proofs.lemmas.Bool.Decides.{nat_tests}
-use Rattle.std.proofs.lemmas.List.{reverse-reverse, reverse-append}
+use Rattle.typst_lexer.proofs.Cited.{◌≡◌, ℕ, suc, ◌+◌, ◌-◌, Bool, true, false, ◌&&◌, ◌==◌, List, [], ◌∷◌, ◌++◌, drop, reverse, slice_get, refl, sym, ap, ◌∙◌, arith, append_assoc, append-nil, take_at, length-append, nat_tests, reverse-reverse, reverse-append, prefix_len, in_line, passes, RawLine, paired, first_line, later_lines, last_of, last_raw_line, is_blank, has_spare_space, end_of, closing, front}
 use Rattle.std.proofs.lemmas.Bool.{and_parts}
-use Rattle.std.specs.List.{prefix_len}
-use Rattle.typst_lines.specs.Classes.{in_line}
 use Rattle.typst_lines.specs.Newline.{is_newline, stretches, line_ends, onto_first}
-use Rattle.typst_lines.specs.Place.{passes}
-use Rattle.typst_lexer.specs.RawLines.{RawLine, paired, first_line, later_lines, last_of, last_raw_line, is_blank, has_spare_space, end_of, closing, front}
 
 abbrev pub row : List ℕ → List ℕ → RawLine
 row ending line = record { ending = ending; line = line }

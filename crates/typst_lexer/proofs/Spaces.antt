@@ -1,18 +1,7 @@
 -- A space before a printable character of ASCII is a token in each mode.
-use Rattle.std.proofs.Common.{◌≡◌, ◌≤◌, ◌==◌, ℕ, false, true, List, [], ◌∷◌, Option, Some, slice_get, refl, ap, ◌∙◌, arith}
-use Rattle.std.proofs.lemmas.Bool.Decides.{nat_tests}
-use Rattle.std.specs.List.{prefix_len}
+use Rattle.typst_lexer.proofs.Cited.{◌≡◌, ◌≤◌, ◌==◌, ℕ, false, true, List, [], ◌∷◌, Option, Some, slice_get, refl, ap, ◌∙◌, arith, nat_tests, prefix_len, CharClasses, moved, moved_from, passes, scout, is_space, line_ends, space, whitespace, Sight, saw, sight, went, plain, far-on, same-sight, token, SyntaxMode}
 use Rattle.typst_kinds.specs.declared.kind.SyntaxKind.TheVariants as kind
-use Rattle.typst_kinds.specs.declared.mode.SyntaxMode.{SyntaxMode}
-use Rattle.typst_lines.specs.Classes.{CharClasses}
-use Rattle.typst_lines.specs.Place.{moved, moved_from, passes, scout}
-use Rattle.typst_tokens.specs.Characters.{is_space}
-use Rattle.typst_tokens.specs.Common.{line_ends, space, whitespace}
 use Rattle.typst_tokens.specs.Reader.{place}
-use Rattle.typst_tokens.specs.Sight.{Sight, saw, sight, went}
-use Rattle.typst_tokens.specs.Token.{plain}
-use Rattle.typst_tokens.proofs.Sights.{far-on, same-sight}
-use Rattle.typst_lexer.specs.Tokens.{token}
 
 -- a space is whitespace in each mode
 space-is : (mode : SyntaxMode) → is_space mode 32 ≡ true

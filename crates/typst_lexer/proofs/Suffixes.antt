@@ -1,14 +1,8 @@
 -- A number and its suffix.
-use Rattle.std.proofs.Common.{◌≡◌, ℕ, List, [], drop, refl, ap, ◌∙◌, Option, Some, None, arith}
-use Rattle.std.proofs.lemmas.Str.{encodes-chars}
-use Rattle.std.specs.Str.{chars, IsUtf8}
-use Rattle.typst_lines.specs.Place.{Place, place_at, moved}
+use Rattle.typst_lexer.proofs.Cited.{◌≡◌, ℕ, List, [], drop, refl, ap, ◌∙◌, Option, Some, None, arith, encodes-chars, chars, IsUtf8, Place, place_at, moved, without_suffix, suffix_of, value_of, number_message, number_hints, message, hints, radix_of, Number}
 use Rattle.typst_tokens.specs.Reader.{place}
-use Rattle.typst_lexer.specs.Faults.{without_suffix, suffix_of, value_of, number_message, number_hints, message, hints}
-use Rattle.typst_tokens.specs.declared.token.Fault.TheVariants.{Number}
 use Rattle.typst_tokens.specs.declared.token.NumberFault.{NumberFault}
 use Rattle.typst_tokens.specs.Characters.{number}
-use Rattle.typst_tokens.specs.Token.{radix_of}
 use Rattle.typst_tokens.specs.declared.token.Base.{Base}
 
 pub start-of : (text : List ℕ) → place_at text 0 ≡ place [] (chars text)

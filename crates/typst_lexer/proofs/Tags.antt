@@ -1,20 +1,9 @@
 -- Facts on tags, and on what is warned of.
-use Rattle.std.proofs.Common.{◌≡◌, ◌<◌, ℕ, suc, ◌+◌, ◌-◌, Bool, true, false, ◌==◌, List, [], ◌∷◌, length, take, drop, reverse, slice_get, Some, None, refl, sym, ap, ◌∙◌, arith, length-take-le}
-use Rattle.std.proofs.lemmas.Bool.Decides.{nat_tests}
+use Rattle.typst_lexer.proofs.Cited.{◌≡◌, ◌<◌, ℕ, suc, ◌+◌, ◌-◌, Bool, true, false, ◌==◌, List, [], ◌∷◌, length, take, drop, reverse, slice_get, Some, None, refl, sym, ap, ◌∙◌, arith, length-take-le, nat_tests, chars-nil, encodes-chars, prefix_len, chars, IsUtf8, Place, place_at, moved_back, passes, past, run, Tree, error_of, remarked, advised, leaf, is_tick, past_ticks, before_ticks, tag_leaves, is_pair, two_delimiters, closed_node, delimited_node, raw_node, in_tag, tag, width, stretch, treated, is_whole, only_tag, warned, Bytes, codes, encode_utf8_all}
 use Rattle.std.proofs.lemmas.List.Sums.{prefix_len-le-length}
-use Rattle.std.proofs.lemmas.Str.{chars-nil, encodes-chars}
-use Rattle.std.specs.List.{prefix_len}
-use Rattle.std.specs.Prelude.{codes, encode_utf8_all}
-use Rattle.std.specs.Str.{chars, IsUtf8}
 use Rattle.typst_lines.proofs.AsciiRuns.{run-width}
-use Rattle.typst_kinds.specs.Span.{Bytes}
 use Rattle.typst_kinds.specs.declared.kind.SyntaxKind.TheVariants as kind
-use Rattle.typst_lines.specs.Place.{Place, place_at, moved_back, passes, past, run}
 use Rattle.typst_tree.specs.Diagnostic.{warning_with, hint_with}
-use Rattle.typst_tree.specs.Tree.{Tree, error_of, remarked, advised}
-use Rattle.typst_lexer.specs.RawLines.{leaf, is_tick}
-use Rattle.typst_lexer.specs.Raw.{past_ticks, before_ticks, tag_leaves, is_pair, two_delimiters, closed_node, delimited_node, raw_node}
-use Rattle.typst_lexer.specs.RawTag.{in_tag, tag, width, stretch, treated, is_whole, only_tag, warned}
 use Rattle.typst_lexer.proofs.Moves.{at, start-ahead, start-before, moved-ahead, moved-before}
 
 -- ---- where the tag ends

@@ -1,21 +1,8 @@
 -- A token takes at least one character, unless it is the end.
-use Rattle.std.proofs.Common.{◌≡◌, ◌≤◌, ℕ, true, if◌then◌else◌, ◌==◌, ap, ◌∙◌, arith, Some}
-use Rattle.std.proofs.lemmas.Bool.Decides.{nat_tests}
-use Rattle.std.specs.Prelude.{IsSome}
-use Rattle.typst_kinds.specs.declared.mode.SyntaxMode.{SyntaxMode}
-use Rattle.typst_lines.specs.Place.{Place, scout}
-use Rattle.typst_tokens.specs.Characters.{is_space}
-use Rattle.typst_lines.specs.Classes.{CharClasses}
-use Rattle.typst_tokens.specs.Common.{whitespace, shebang, line_comment, block_comment, comment_end}
-use Rattle.typst_tokens.specs.Reader.{Reader, eaten}
-use Rattle.typst_tokens.specs.Raw.{raw}
+use Rattle.typst_lexer.proofs.Cited.{◌≡◌, ◌≤◌, ℕ, true, if◌then◌else◌, ◌==◌, ap, ◌∙◌, arith, Some, nat_tests, IsSome, Place, scout, is_space, CharClasses, whitespace, shebang, line_comment, block_comment, comment_end, Reader, eaten, of_mode, hash, slash, star, backtick, token, Token, Memory, SyntaxMode, raw, some-ahead, run-ahead, line-eats}
 use Rattle.typst_tokens.proofs.CodeEats.{code-eats}
 use Rattle.typst_tokens.proofs.MarkupEats.{markup-eats}
 use Rattle.typst_lexer.proofs.Eats.{math-eats}
-use Rattle.typst_tokens.proofs.CommonEats.{some-ahead, run-ahead, line-eats}
-use Rattle.typst_lexer.specs.Tokens.{of_mode, hash, slash, star, backtick, token}
-use Rattle.typst_tokens.specs.declared.token.Token.{Token}
-use Rattle.typst_tokens.specs.Memory.{Memory}
 
 mode-eats : (c : ℕ) (p : Place) (e : scout 0 p ≡ Some c) (k : CharClasses) (mode : SyntaxMode) → 1 ≤ eaten (of_mode k mode c) p
 unfolding of_mode

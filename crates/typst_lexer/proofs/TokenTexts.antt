@@ -1,17 +1,11 @@
 -- Facts on the texts of error tokens.
-use Rattle.std.proofs.Common.{◌≡◌, ℕ, true, List, [], append-nil, encode_utf8_all, ap, sym, ◌∙◌, Some, None, arith}
-use Rattle.std.specs.Str.{chars}
-use Rattle.typst_lines.specs.Place.{place_at, moved}
-use Rattle.typst_tokens.proofs.Moves.{moved-more}
+use Rattle.typst_lexer.proofs.Cited.{◌≡◌, ℕ, true, List, [], append-nil, encode_utf8_all, ap, sym, ◌∙◌, Some, None, arith, chars, place_at, moved, hints, message, Token, CharClasses, moved-more}
 use Rattle.typst_lexer.specs.Nodes.{is_leaf, token_node, plain_node, fault_node}
-use Rattle.typst_lexer.specs.Faults.{hints, message}
 use Rattle.typst_lexer.proofs.Accesses.{text-access}
 use Rattle.typst_lexer.proofs.Suffixes.{start-of}
 use Rattle.typst_tokens.specs.Reader.{place}
-use Rattle.typst_tokens.specs.declared.token.Token.{Token}
 use Rattle.typst_tokens.specs.declared.token.Fault.{Fault}
 use Rattle.typst_lexer.proofs.Leaves.{raw-leaves}
-use Rattle.typst_lines.specs.Classes.{CharClasses}
 use Rattle.typst_tree.specs.Tree.{Tree, text_of, leaf_of, error_of, all_advised}
 use Rattle.typst_tree.proofs.Texts.{text_all_advised}
 

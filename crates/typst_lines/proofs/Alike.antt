@@ -1,15 +1,9 @@
 -- Fronts and ends that two texts have in common.
-use Rattle.std.proofs.Common.{◌≡◌, ◌∙◌, ◌++◌, true, ap, sym, subst, arith, take, drop, length, slice_range, ℕ, ◌+◌, ◌-◌, ◌≤◌, List, nat_eq, reverse, take-add}
+use Rattle.typst_lines.proofs.Cited.{◌≡◌, ◌∙◌, ◌++◌, true, ap, sym, subst, arith, take, drop, length, slice_range, ℕ, ◌+◌, ◌-◌, ◌≤◌, List, nat_eq, reverse, take-add, IsUtf8-take, IsUtf8-drop, IsCharBoundary-from_drop, IsCharBoundary-from_take, chars, IsUtf8, IsCharBoundary, BeginAlike, EndAlike, IsSharedFront, IsSharedEnd, Place, place_at, drop_split, pointwise}
 use Rattle.std.proofs.lemmas.List.{take-take, drop-drop, reverse-append}
-use Rattle.std.proofs.lemmas.List.Folds.{drop_split}
 use Rattle.std.proofs.lemmas.Slice.Eq.{bytes_eq-Decides}
-use Rattle.std.proofs.lemmas.Str.{IsUtf8-take, IsUtf8-drop, IsCharBoundary-from_drop, IsCharBoundary-from_take}
-use Rattle.std.specs.Cmp.Lexicographic.{pointwise}
-use Rattle.std.specs.Str.{chars, IsUtf8, IsCharBoundary}
 use Rattle.typst_lines.proofs.CommonEnds.{Shares}
 use Rattle.typst_lines.proofs.LineTable.{chars-split}
-use Rattle.typst_lines.specs.Blocks.{BeginAlike, EndAlike, IsSharedFront, IsSharedEnd}
-use Rattle.typst_lines.specs.Place.{Place, place_at}
 
 same : (xs ys : List ℕ) → true ≡ pointwise nat_eq xs ys → xs ≡ ys
 same xs ys e = (bytes_eq-Decides xs ys).0 (sym e)

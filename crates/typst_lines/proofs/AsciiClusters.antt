@@ -1,20 +1,12 @@
 -- The first cluster of a line that begins with two ASCII characters, or is one.
-use Rattle.std.proofs.Common.{◌≡◌, ◌<◌, ℕ, Bool, true, false, ◌||◌, ◌==◌, if◌then◌else◌, List, [], ◌∷◌, ◌++◌, take, length, refl, sym, ◌∙◌, arith, ltb-true, unwrap_or, append-nil}
-use Rattle.std.proofs.lemmas.Str.{encode_ascii}
-use Rattle.std.specs.Char.{is_ascii}
-use Rattle.std.specs.List.{list_all}
-use Rattle.std.specs.Prelude.{encode_utf8_all}
+use Rattle.typst_lines.proofs.Cited.{◌≡◌, ◌<◌, ℕ, Bool, true, false, ◌||◌, ◌==◌, if◌then◌else◌, List, [], ◌∷◌, ◌++◌, take, length, refl, sym, ◌∙◌, arith, ltb-true, unwrap_or, append-nil, encode_ascii, is_ascii, list_all, cut, in_line, kept_cluster, break_by_pair, is_grapheme_break, first_len, unicode_cluster, encode_utf8_all}
 use Rattle.unicode.specs.GraphemeClusterBreak.{grapheme_cluster_break}
 use Rattle.unicode.specs.declared.properties.GraphemeClusterBreak.{GraphemeClusterBreak}
 use Rattle.unicode.specs.declared.properties.GraphemeClusterBreak.TheVariants.{Control, Lf, Other}
 use Rattle.unicode.proofs.BreaksComputing.{ucd_breaks}
 use Rattle.unicode.proofs.GraphemeClusterBreakLemmas.{grapheme_cluster_break_stepped}
 use Rattle.unicode.proofs.Facts.{Stepped-below}
-use Rattle.unicode_segmentation.specs.Grapheme.{break_by_pair, is_grapheme_break}
-use Rattle.unicode_segmentation.specs.Segments.{cut}
 use Rattle.unicode_segmentation.proofs.GraphemeLemmas.{is_grapheme_break-inside, is_grapheme_break-others}
-use Rattle.typst_lines.specs.Classes.{in_line, kept_cluster}
-use Rattle.typst_lines.specs.UnicodeTables.{first_len, unicode_cluster}
 use Rattle.typst_lines.proofs.Bools.{and-first, and-second}
 
 -- the value joins with none of its kind, nor with what stands before or after it

@@ -1,8 +1,5 @@
 -- Runs of ASCII characters.
-use Rattle.std.proofs.Common.{◌≡◌, ◌<◌, ℕ, suc, ◌+◌, Bool, true, false, List, [], ◌∷◌, take, length, length-append, encode_utf8_all, refl, ap, arith}
-use Rattle.std.proofs.lemmas.Str.{encode_ascii}
-use Rattle.std.specs.List.{prefix_len}
-use Rattle.std.specs.Prelude.{encode_utf8}
+use Rattle.typst_lines.proofs.Cited.{◌≡◌, ◌<◌, ℕ, suc, ◌+◌, Bool, true, false, List, [], ◌∷◌, take, length, length-append, encode_utf8_all, refl, ap, arith, encode_ascii, prefix_len, encode_utf8}
 
 -- such a run takes a byte a character
 pub run-width : (test : ℕ → Bool) → ((c : ℕ) → test c ≡ true → c < 128) → (cs : List ℕ) → length (encode_utf8_all (take (prefix_len test cs) cs)) ≡ length (take (prefix_len test cs) cs)

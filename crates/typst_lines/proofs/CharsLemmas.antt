@@ -1,6 +1,5 @@
 -- One step of an iterator over the characters of a text.
-use Rattle.std.proofs.Common.{◌≡◌, ℕ, Option, Some, None, List, [], ◌∷◌, refl, sym, ap}
-use Rattle.std.proofs.lemmas.Iterator.{YieldsList}
+use Rattle.typst_lines.proofs.Cited.{◌≡◌, ℕ, Option, Some, None, List, [], ◌∷◌, refl, sym, ap, YieldsList}
 
 -- an iterator that gives a list and gave an item: the item heads the list, and the rest is left
 pub after_first : {S : Type 0} {steps : S → Option ℕ → S → Type 0} {s : S} (all : List ℕ) (t : S) (c : ℕ) → YieldsList steps (λ x. x) s all → steps s (Some c) t

@@ -1,13 +1,6 @@
 -- The first cluster of a line in bytes and in characters.
-use Rattle.std.proofs.Common.{◌≡◌, ◌<◌, ℕ, Bool, true, false, if◌then◌else◌, List, [], ◌∷◌, take, length, refl, sym, ap, subst, ◌∙◌, arith, ltb-true, length-take-le, suc, append-nil}
-use Rattle.std.proofs.lemmas.Bool.Decides.{nat_tests}
-use Rattle.std.proofs.lemmas.Str.{length-encode, encodes-IsAscii, encodes-chars, chars-IsAscii}
+use Rattle.typst_lines.proofs.Cited.{◌≡◌, ◌<◌, ℕ, Bool, true, false, if◌then◌else◌, List, [], ◌∷◌, take, length, refl, sym, ap, subst, ◌∙◌, arith, ltb-true, length-take-le, suc, append-nil, nat_tests, length-encode, encodes-IsAscii, encodes-chars, chars-IsAscii, is_ascii, len_utf8, list_all, chars, IsUtf8, IsAscii, IsNotAscii, kept_cluster, encode_utf8, encode_utf8_all, slice_index}
 use Rattle.std.proofs.lemmas.Str.Ascii.{IsAscii-nil, IsAscii-cons}
-use Rattle.std.specs.Char.{is_ascii, len_utf8}
-use Rattle.std.specs.List.{list_all}
-use Rattle.std.specs.Prelude.{encode_utf8, encode_utf8_all, slice_index}
-use Rattle.std.specs.Str.{chars, IsUtf8, IsAscii, IsNotAscii}
-use Rattle.typst_lines.specs.Classes.{kept_cluster}
 use Rattle.typst_lines.proofs.Bools.{and-first, and-second}
 
 IsAscii-chars : (cs : List ℕ) → list_all is_ascii cs ≡ true → IsAscii cs

@@ -1,15 +1,9 @@
 -- What two texts have in common at the front and at the end.
-use Rattle.std.proofs.Common.{◌≡◌, length, ℕ, ◌+◌, ◌-◌, ◌==◌, List, [], ◌∷◌, ◌++◌, slice_get, Option, Some, None, refl, sym, ap, subst, ◌∙◌, true, false, arith, take, drop, reverse, append_assoc, append-nil, drop_at, nat_eq}
-use Rattle.std.proofs.lemmas.Bool.Decides.{nat_tests}
+use Rattle.typst_lines.proofs.Cited.{◌≡◌, length, ℕ, ◌+◌, ◌-◌, ◌==◌, List, [], ◌∷◌, ◌++◌, slice_get, Option, Some, None, refl, sym, ap, subst, ◌∙◌, true, false, arith, take, drop, reverse, append_assoc, append-nil, drop_at, nat_eq, nat_tests, IsCharBoundary-end, chars, IsUtf8, IsCharBoundary, bytes, common_front, common_ends, IsCommonFront, Place, place_at, moved, moved_back, scout, passes, pointwise}
 use Rattle.std.proofs.lemmas.List.{take-append-drop}
-use Rattle.std.proofs.lemmas.Str.{IsCharBoundary-end}
-use Rattle.std.specs.Cmp.Lexicographic.{pointwise}
-use Rattle.std.specs.Str.{chars, IsUtf8, IsCharBoundary}
 use Rattle.typst_lines.proofs.LineTable.{bytes-append, bytes-text, bytes-front, chars-split}
 use Rattle.typst_lines.proofs.PlaceLemmas.{head-splits}
 use Rattle.typst_lines.proofs.RoundTrip.{bytes-before}
-use Rattle.typst_lines.specs.Lines.{bytes, common_front, common_ends, IsCommonFront}
-use Rattle.typst_lines.specs.Place.{Place, place_at, moved, moved_back, scout, passes}
 
 -- two lists that begin alike and then differ, or end
 pub record Shares (cs ds us vs : List ℕ) : Type 0 where

@@ -1,18 +1,6 @@
 -- Characters and UTF-16 units, counted by the bytes of UTF-8 that begin them.
-use Rattle.std.proofs.Common.{◌≡◌, ℕ, zero, suc, ◌+◌, ◌-◌, ◌/◌, ◌%◌, ◌<◌, ◌≤◌, true, false, List, [], ◌∷◌, ◌++◌, length, take, drop, drop_at, length-append, slice_range, take-add, get_or, refl, sym, ap, subst, ◌∙◌, arith, nat_lt}
-use Rattle.std.proofs.lemmas.Bool.{cases_lt}
-use Rattle.std.proofs.lemmas.Bool.Decides.{nat_tests}
-use Rattle.std.proofs.lemmas.List.Sums.{sum_by-append, sum_by_more, sum_by-take-le}
+use Rattle.typst_lines.proofs.Cited.{◌≡◌, ℕ, zero, suc, ◌+◌, ◌-◌, ◌/◌, ◌%◌, ◌<◌, ◌≤◌, true, false, List, [], ◌∷◌, ◌++◌, length, take, drop, drop_at, length-append, slice_range, take-add, get_or, refl, sym, ap, subst, ◌∙◌, arith, nat_lt, cases_lt, nat_tests, encodes-chars, chars-append, IsUtf8-take, IsUtf8-drop, IsCharBoundary-from_rest, sum_by, chars, IsUtf8, IsCharBoundary, chars_begun, units_begun, IsOfFirst, units, utf16_len, utf16_before, least_place, IsLineUpTo, Place, place_at, Line, sum_by-append, sum_by_more, sum_by-take-le, encode, encode_utf8_all}
 use Rattle.std.proofs.lemmas.List.{take-take}
-use Rattle.std.proofs.lemmas.Str.{encodes-chars, chars-append, IsUtf8-take, IsUtf8-drop, IsCharBoundary-from_rest}
-use Rattle.std.specs.List.{sum_by}
-use Rattle.std.specs.Prelude.{encode_utf8_all}
-use Rattle.std.specs.Str.{chars, IsUtf8, IsCharBoundary}
-use lib.Utf8.{encode}
-use Rattle.typst_lines.specs.Blocks.{chars_begun, units_begun, IsOfFirst}
-use Rattle.typst_lines.specs.Lines.{units, utf16_len, utf16_before, least_place, IsLineUpTo}
-use Rattle.typst_lines.specs.Place.{Place, place_at}
-use Rattle.typst_lines.specs.declared.lines.Line.{Line}
 use Rattle.typst_lines.proofs.LineTable.{units-append, bytes-append, bytes-front, chars-split}
 use Rattle.typst_lines.proofs.PlaceLemmas.{chars-ahead}
 use Rattle.typst_lines.proofs.RoundTrip.{HasPassed, reach, reach-from, overshot, overshot-low, units-before, upto-boundary, upto-units}

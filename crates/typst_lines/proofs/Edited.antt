@@ -1,15 +1,5 @@
 -- The line table of a text in which a stretch was replaced: lines that start before it stay, those behind it move.
-use Rattle.std.proofs.Common.{◌≡◌, ℕ, zero, suc, ◌+◌, ◌-◌, ◌%◌, ◌^◌, ◌<◌, ◌≤◌, Bool, true, false, nat_le, List, [], ◌∷◌, ◌++◌, length, map, filter, take, drop, take_at, drop_at, append_assoc, slice_get, Some, refl, ap, sym, subst, ◌∙◌, arith}
-use Rattle.std.proofs.lemmas.Bool.Decides.{nat_tests}
-use Rattle.std.specs.Prelude.{slice_range}
-use Rattle.std.specs.Str.{chars, IsUtf8, IsCharBoundary}
-use Rattle.std.proofs.lemmas.Str.{chars-append, IsUtf8-take, IsCharBoundary-start}
-use Rattle.typst_lines.specs.Newline.{ends_line}
-use Rattle.typst_lines.specs.Place.{char_width, place_at}
-use Rattle.typst_lines.specs.Lines.{utf16_len, units, bytes, line_table, lines_after, utf16_before, line_of}
-use Rattle.typst_lines.specs.Edited.{IsEdit, distance, units_at, moved_line}
-use Rattle.typst_lines.specs.Pending.{UpTo}
-use Rattle.typst_lines.specs.declared.lines.Line.{Line}
+use Rattle.typst_lines.proofs.Cited.{◌≡◌, ℕ, zero, suc, ◌+◌, ◌-◌, ◌%◌, ◌^◌, ◌<◌, ◌≤◌, Bool, true, false, nat_le, List, [], ◌∷◌, ◌++◌, length, map, filter, take, drop, take_at, drop_at, append_assoc, slice_get, Some, refl, ap, sym, subst, ◌∙◌, arith, nat_tests, chars, IsUtf8, IsCharBoundary, chars-append, IsUtf8-take, IsCharBoundary-start, ends_line, char_width, place_at, utf16_len, units, bytes, line_table, lines_after, utf16_before, line_of, IsEdit, distance, units_at, moved_line, UpTo, Line, slice_range}
 use Rattle.typst_lines.proofs.LineTable.{line_at, onto_if, starts_from, line_table-starts, width-positive, units-le, units-front, bytes-append, bytes-text, bytes-front, chars-split, chars-range, front-boundary, front-ahead, front-chars}
 use Rattle.typst_lines.proofs.LinesFromLaw.{after, later-line, earlier-line, after-starts, none-before, table-after}
 use Rattle.typst_lines.proofs.TableOrder.{rising, rising-bytes, rising-lower, rising-units, table-bytes, many, none-upto, line_of-many}

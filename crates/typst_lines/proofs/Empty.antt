@@ -1,8 +1,5 @@
 -- Texts without characters.
-use Rattle.std.proofs.Common.{◌≡◌, ℕ, ◌==◌, List, [], ◌∷◌, length, encode_utf8_all, refl, sym, ap, ◌∙◌, arith}
-use Rattle.std.proofs.lemmas.Bool.Decides.{nat_tests}
-use Rattle.std.proofs.lemmas.Str.{encodes-chars, chars-nil}
-use Rattle.std.specs.Str.{chars, IsUtf8}
+use Rattle.typst_lines.proofs.Cited.{◌≡◌, ℕ, ◌==◌, List, [], ◌∷◌, length, encode_utf8_all, refl, sym, ap, ◌∙◌, arith, nat_tests, encodes-chars, chars-nil, chars, IsUtf8}
 
 -- a text without bytes has no characters
 pub none-is : (text : List ℕ) → IsUtf8 text → (length (chars text) == 0) ≡ (length text == 0)

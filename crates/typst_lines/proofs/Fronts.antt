@@ -1,13 +1,5 @@
 -- Steps over the characters of a link.
-use Rattle.std.proofs.Common.{◌≡◌, ℕ, zero, suc, Bool, true, false, not, ◌&&◌, ◌==◌, List, [], ◌∷◌, ◌++◌, length, take, reverse, slice_get, Option, Some, None, refl, sym, ap, ◌∙◌, arith, append_assoc, append-nil}
-use Rattle.std.proofs.lemmas.List.{reverse-append}
-use Rattle.std.proofs.lemmas.Str.{chars-nil}
-use Rattle.std.specs.List.{list_all}
-use Rattle.std.specs.Str.{chars}
-use Rattle.typst_lines.specs.Classes.{CharClasses}
-use Rattle.typst_lines.specs.Place.{Place, place_at, moved, moved_from, scout}
-use Rattle.typst_lines.specs.Labels.{is_name, is_label_id}
-use Rattle.typst_lines.specs.Links.{after, front, without_last_signs, link_prefix}
+use Rattle.typst_lines.proofs.Cited.{◌≡◌, ℕ, zero, suc, Bool, true, false, not, ◌&&◌, ◌==◌, List, [], ◌∷◌, ◌++◌, length, take, reverse, slice_get, Option, Some, None, refl, sym, ap, ◌∙◌, arith, append_assoc, append-nil, reverse-append, chars-nil, list_all, chars, CharClasses, Place, place_at, moved, moved_from, scout, is_name, is_label_id, after, front, without_last_signs, link_prefix}
 
 abbrev at : List ℕ → List ℕ → Place
 at before ahead = record { before = before; ahead = ahead }

@@ -1,13 +1,7 @@
 -- From the mask of one load to the bytes that pass a test.
-use Rattle.std.proofs.Common.{◌≡◌, ℕ, ◌+◌, ◌%◌, ◌^◌, ◌≤◌, ◌-◌, Bool, true, not, cond, nat_le, List, [], ◌∷◌, map, length, take, drop, slice_range, get_or, Fits, w8, replicate, refl, sym, ap, ◌∙◌, arith}
-use Rattle.std.proofs.lemmas.Bool.{agree_below, agree_below_at, not-true, not-false}
-use Rattle.std.proofs.lemmas.List.{length-map, length-take}
-use Rattle.std.proofs.lemmas.List.Sums.{sum_by-cons, count_by-le-length}
-use Rattle.std.proofs.lemmas.Simd.{map-map, mask_l-mod, length-chunk, chunk-fits, ones-mask_l, zip2_of_maps, zip2_splat, zip2_splat_left, first_set_mask_l, run_in_chunk_le, run_in_chunk_fails, run_in_chunk_stops}
+use Rattle.typst_lines.proofs.Cited.{◌≡◌, ℕ, ◌+◌, ◌%◌, ◌^◌, ◌≤◌, ◌-◌, Bool, true, not, cond, nat_le, List, [], ◌∷◌, map, length, take, drop, slice_range, get_or, Fits, w8, replicate, refl, sym, ap, ◌∙◌, arith, agree_below, agree_below_at, not-true, not-false, length-map, length-take, map-map, mask_l-mod, length-chunk, chunk-fits, ones-mask_l, zip2_of_maps, zip2_splat, zip2_splat_left, first_set_mask_l, run_in_chunk_le, run_in_chunk_fails, run_in_chunk_stops, is_plain_byte, IsPlainFront, first_set, chars_begun, units_begun, chunk, mask_l, top, zip2, Each1, sum_by-cons, count_by-le-length}
 use Rattle.std.specs.List.{prefix_len, count_by, sum_by}
-use Rattle.typst_lines.specs.Blocks.{is_plain_byte, IsPlainFront, first_set, chars_begun, units_begun}
 use lib.Count.{ones}
-use lib.Lanes.{chunk, mask_l, top, zip2, Each1}
 
 -- an operation on two vectors that were computed lane by lane from v, or on v and a splat
 module _ (h : ℕ → ℕ → ℕ) (v : List ℕ) where

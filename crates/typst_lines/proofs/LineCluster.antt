@@ -1,14 +1,5 @@
 -- A cluster of the rest of a line, as a step over the characters ahead.
-use Rattle.std.proofs.Common.{◌≡◌, ◌≤◌, ◌<◌, ◌+◌, ℕ, zero, suc, Bool, true, false, ◌&&◌, if◌then◌else◌, List, [], ◌∷◌, take, length, refl, ap, arith, one-add}
-use Rattle.std.proofs.lemmas.List.{length-take}
-use Rattle.std.proofs.lemmas.Str.{chars-nil, scalars-chars}
-use Rattle.std.specs.List.{prefix_len, list_all}
-use Rattle.std.specs.Prelude.{encode_utf8_all}
-use Rattle.std.specs.Str.{chars, all_scalars, IsUtf8}
-use Rattle.std.proofs.lemmas.Bool.Decides.{nat_tests}
-use Rattle.std.specs.Char.{IsScalar, is_whitespace}
-use Rattle.typst_lines.specs.Newline.{is_newline}
-use Rattle.typst_lines.specs.Place.{Place, run, bytes_ahead}
+use Rattle.typst_lines.proofs.Cited.{◌≡◌, ◌≤◌, ◌<◌, ◌+◌, ℕ, zero, suc, Bool, true, false, ◌&&◌, if◌then◌else◌, List, [], ◌∷◌, take, length, refl, ap, arith, one-add, length-take, chars-nil, scalars-chars, prefix_len, list_all, chars, all_scalars, IsUtf8, nat_tests, IsScalar, is_whitespace, is_newline, Place, run, bytes_ahead, encode_utf8_all}
 use Rattle.typst_lines.specs.Classes.{CharClasses, IsLine, IsLawful, in_line}
 
 and-both : (a b : Bool) → (a && b) ≡ true → (a ≡ true) × (b ≡ true)

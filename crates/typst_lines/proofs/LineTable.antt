@@ -1,15 +1,7 @@
 -- Facts on the table of lines and on positions.
-use Rattle.std.proofs.Common.{◌≡◌, ◌≤◌, ◌<◌, Bool, length, ℕ, ◌+◌, ◌-◌, cond, List, [], ◌∷◌, ◌++◌, slice_get, Some, None, refl, sym, ap, ◌∙◌, true, false, arith, map, filter, take, drop, reverse, slice_range, take-add, take_at, drop_at, length-append, length-take-le}
-use Rattle.std.proofs.lemmas.Bool.Decides.{nat_tests}
+use Rattle.typst_lines.proofs.Cited.{◌≡◌, ◌≤◌, ◌<◌, Bool, length, ℕ, ◌+◌, ◌-◌, cond, List, [], ◌∷◌, ◌++◌, slice_get, Some, None, refl, sym, ap, ◌∙◌, true, false, arith, map, filter, take, drop, reverse, slice_range, take-add, take_at, drop_at, length-append, length-take-le, nat_tests, chars-append, scalars-chars, chars-encodes, encodes-chars, encodes-append, IsUtf8-take, IsCharBoundary-from_drop, length-encode, len_utf8_bounds, chars, IsUtf8, IsCharBoundary, ends_line, char_width, Place, place_at, moved, scout, utf16_len, units, bytes, between, places_from, starts_line, measured, line_table, utf16_before, Line, encode_utf8, encode_utf8_all}
 use Rattle.std.proofs.lemmas.List.{take-append-drop}
-use Rattle.std.proofs.lemmas.Str.{chars-append, scalars-chars, chars-encodes, encodes-chars, encodes-append, IsUtf8-take, IsCharBoundary-from_drop, length-encode, len_utf8_bounds}
-use Rattle.std.specs.Prelude.{encode_utf8, encode_utf8_all}
-use Rattle.std.specs.Str.{chars, IsUtf8, IsCharBoundary}
 use Rattle.typst_lines.proofs.PlaceLemmas.{scalars-both, head-splits}
-use Rattle.typst_lines.specs.Newline.{ends_line}
-use Rattle.typst_lines.specs.Place.{char_width, Place, place_at, moved, scout}
-use Rattle.typst_lines.specs.Lines.{utf16_len, units, bytes, between, places_from, starts_line, measured, line_table, utf16_before}
-use Rattle.typst_lines.specs.declared.lines.Line.{Line}
 
 -- ---- characters, bytes and units
 

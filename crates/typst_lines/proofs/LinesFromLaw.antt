@@ -1,18 +1,9 @@
 -- Facts on the lines that start after a place.
-use Rattle.std.proofs.Common.{◌≡◌, ◌≤◌, ◌<◌, Bool, length, ℕ, zero, suc, ◌+◌, List, [], ◌∷◌, ◌++◌, slice_get, Option, Some, None, refl, sym, ap, subst, ◌∙◌, true, false, arith, take, drop, filter, nat_lt, get_or}
-use Rattle.std.proofs.lemmas.Bool.Decides.{nat_tests}
-use Rattle.std.proofs.lemmas.Str.{chars-nil, IsCharBoundary-start}
-use Rattle.std.specs.Str.{chars, IsUtf8, IsCharBoundary}
-use Rattle.std.proofs.lemmas.Bool.{not-true}
+use Rattle.typst_lines.proofs.Cited.{◌≡◌, ◌≤◌, ◌<◌, Bool, length, ℕ, zero, suc, ◌+◌, List, [], ◌∷◌, ◌++◌, slice_get, Option, Some, None, refl, sym, ap, subst, ◌∙◌, true, false, arith, take, drop, filter, nat_lt, get_or, nat_tests, chars-nil, IsCharBoundary-start, chars, IsUtf8, IsCharBoundary, not-true, is_plain_byte, IsPlainFront, is_newline, ends_line, Place, place_at, moved, scout, char_width, IsStep, utf16_len, units, bytes, line_table, lines_after, utf16_before, IsPlainRun, Line}
 use Rattle.typst_lines.proofs.Bools.{and-first, and-second}
 use Rattle.typst_lines.proofs.LineTable.{line_at, onto_if, starts_from, line_table-starts, width-positive, chars-split, bytes-front, place-end, ahead-text}
 use Rattle.typst_lines.proofs.PlaceLemmas.{head-splits, IsStep-from_ascii}
 use Rattle.typst_lines.proofs.RoundTrip.{units-before, units-moved}
-use Rattle.typst_lines.specs.Blocks.{is_plain_byte, IsPlainFront}
-use Rattle.typst_lines.specs.Newline.{is_newline, ends_line}
-use Rattle.typst_lines.specs.Place.{Place, place_at, moved, scout, char_width, IsStep}
-use Rattle.typst_lines.specs.Lines.{utf16_len, units, bytes, line_table, lines_after, utf16_before, IsPlainRun}
-use Rattle.typst_lines.specs.declared.lines.Line.{Line}
 
 module _ (k : ℕ) where
   abbrev pub after : Line → Bool
@@ -97,9 +88,6 @@ plain-steps s v start i (suc n) run room plain =
 pub plain-block : (s t : List ℕ) → IsUtf8 s → t ≡ s → (start i n run : ℕ) → IsPlainRun s start i → i + n ≤ length t → IsPlainFront t i n run → IsPlainRun s start (i + run)
 plain-block s t v same start i n run so_far room h =
     plain-steps s v start i run so_far (omega (arith, ap length same, h.within)) (λ k from to. subst (λ x. is_plain_byte (get_or x k 0) ≡ true) same (h.plain k from to))
-
-pub plain-start : (s : List ℕ) (i : ℕ) → IsCharBoundary s i → IsPlainRun s i i
-plain-start s i at = record { grows = omega arith; boundary = at; none_inside = refl; counted = refl }
 
 pub after-end : (s : List ℕ) → IsUtf8 s → (i : ℕ) → IsCharBoundary s i → None ≡ scout 0 (place_at s i) → lines_after s i ≡ []
 after-end s v i at e = after-starts s v i at ∙ ap (starts_from i (utf16_before s i)) (place-end (place_at s i) e)

@@ -1,13 +1,5 @@
 -- The lines of an edit that is not settled yet hold the table before it and the one after it.
-use Rattle.std.proofs.Common.{◌≡◌, ℕ, suc, ◌+◌, ◌-◌, ◌^◌, ◌<◌, ◌≤◌, Bool, if◌then◌else◌, nat_le, List, [], ◌∷◌, ◌++◌, length, map, filter, take, drop, length-drop, length-append, length-take-le, drop-drop, take-append-drop, append_assoc, slice_get, Some, refl, ap, sym, ◌∙◌, arith}
-use Rattle.std.proofs.Math.Seq.{take-append_seam, drop-append_seam}
-use Rattle.std.proofs.lemmas.List.{take-append-le, drop-append-le}
-use Rattle.std.specs.Prelude.{slice_range}
-use Rattle.std.specs.Str.{IsUtf8, IsCharBoundary}
-use Rattle.typst_lines.specs.Lines.{line_table, lines_after, line_of}
-use Rattle.typst_lines.specs.Edited.{IsEdit, units_at, moved_line}
-use Rattle.typst_lines.specs.Pending.{UpTo, IsNext, AddsStarts, IsPending}
-use Rattle.typst_lines.specs.declared.lines.Line.{Line}
+use Rattle.typst_lines.proofs.Cited.{◌≡◌, ℕ, suc, ◌+◌, ◌-◌, ◌^◌, ◌<◌, ◌≤◌, Bool, if◌then◌else◌, nat_le, List, [], ◌∷◌, ◌++◌, length, map, filter, take, drop, length-drop, length-append, length-take-le, drop-drop, take-append-drop, append_assoc, slice_get, Some, refl, ap, sym, ◌∙◌, arith, take-append_seam, drop-append_seam, take-append-le, drop-append-le, IsUtf8, IsCharBoundary, line_table, lines_after, line_of, IsEdit, units_at, moved_line, UpTo, IsNext, AddsStarts, IsPending, Line, slice_range}
 use Rattle.typst_lines.proofs.LinesFromLaw.{after, earlier-line}
 use Rattle.typst_lines.proofs.TableOrder.{many, line_of-many}
 use Rattle.typst_lines.proofs.Edited.{kept-front, settled, none-behind}

@@ -1,16 +1,6 @@
 -- Steps over the characters of a text.
-use Rattle.std.proofs.Common.{◌≡◌, ℕ, zero, suc, Bool, true, ◌&&◌, slice_get, ◌+◌, ◌-◌, ◌<◌, ◌≤◌, List, [], ◌∷◌, ◌++◌, reverse, length, take, drop, slice_range, refl, sym, ap, subst, ◌∙◌, arith, append_assoc, append-nil, take-add, drop-drop, take_at, drop_at, length-append, length-take-le, length-drop, min, get_or, ◌==◌, Some}
-use Rattle.std.proofs.Math.Seq.{drop-cons}
+use Rattle.typst_lines.proofs.Cited.{◌≡◌, ℕ, zero, suc, Bool, true, ◌&&◌, slice_get, ◌+◌, ◌-◌, ◌<◌, ◌≤◌, List, [], ◌∷◌, ◌++◌, reverse, length, take, drop, slice_range, refl, sym, ap, subst, ◌∙◌, arith, append_assoc, append-nil, take-add, drop-drop, take_at, drop_at, length-append, length-take-le, length-drop, min, get_or, ◌==◌, Some, drop-cons, chars-nil, chars-append, scalars-chars, chars-encodes, encodes-chars, encodes-append, chars_past_char, IsUtf8-between, IsUtf8-take, IsUtf8-drop, IsUtf8-past_char, IsCharBoundary-from_drop, IsCharBoundary-from_take, length-encode, len_utf8_bounds, encode_ascii, all_scalars, prefix_len, IsScalar, chars, IsUtf8, IsCharBoundary, bytes_ahead, char_width, Place, place_at, moved, scout, moved_from, passes, past, word_at, IsStep, IsStepBack, IsFirst, IsLast, moved_back, drop_split, scalar, encode_utf8, encode_utf8_all}
 use Rattle.std.proofs.lemmas.List.{reverse-append, reverse-reverse, take_min, take-append-drop}
-use Rattle.std.proofs.lemmas.List.Folds.{drop_split}
-use Rattle.std.proofs.lemmas.Str.{chars-nil, chars-append, scalars-chars, chars-encodes, encodes-chars, encodes-append, chars_past_char, IsUtf8-between, IsUtf8-take, IsUtf8-drop, IsUtf8-past_char, IsCharBoundary-from_drop, IsCharBoundary-from_take, length-encode, len_utf8_bounds, encode_ascii}
-use Rattle.std.specs.Prelude.{encode_utf8, encode_utf8_all}
-use Rattle.std.specs.Str.{all_scalars}
-use lib.Utf8.{scalar}
-use Rattle.std.specs.List.{prefix_len}
-use Rattle.std.specs.Char.{IsScalar}
-use Rattle.std.specs.Str.{chars, IsUtf8, IsCharBoundary}
-use Rattle.typst_lines.specs.Place.{bytes_ahead, char_width, Place, place_at, moved, scout, moved_from, passes, past, word_at, IsStep, IsStepBack, IsFirst, IsLast, moved_back}
 use Rattle.typst_lines.proofs.Bools.{and-first, and-second}
 
 pub encode_utf8_nonempty : (c : ℕ) → 0 < length (encode_utf8 c)

@@ -1,12 +1,7 @@
 -- What two texts don't have in common, in the place of one another, makes one text of the other.
-use Rattle.std.proofs.Common.{◌≡◌, ℕ, ◌+◌, ◌-◌, ◌≤◌, Bool, true, ◌==◌, if◌then◌else◌, List, [], ◌∷◌, ◌++◌, length, take, drop, reverse, slice_range, refl, sym, ap, subst, ◌∙◌, arith, append_assoc, take_at, drop_at, length-append}
-use Rattle.std.proofs.lemmas.List.{reverse-append, reverse-reverse}
-use Rattle.std.proofs.lemmas.Str.{scalars-chars, encodes-chars, encodes-append, IsCharBoundary-at_seam}
-use Rattle.std.specs.Prelude.{encode_utf8_all}
-use Rattle.std.specs.Str.{chars, IsUtf8, IsCharBoundary, all_scalars}
+use Rattle.typst_lines.proofs.Cited.{◌≡◌, ℕ, ◌+◌, ◌-◌, ◌≤◌, Bool, true, ◌==◌, if◌then◌else◌, List, [], ◌∷◌, ◌++◌, length, take, drop, reverse, slice_range, refl, sym, ap, subst, ◌∙◌, arith, append_assoc, take_at, drop_at, length-append, reverse-append, reverse-reverse, scalars-chars, encodes-chars, encodes-append, IsCharBoundary-at_seam, chars, IsUtf8, IsCharBoundary, all_scalars, bytes, common_front, common_ends, encode_utf8_all}
 use Rattle.typst_lines.proofs.LineTable.{bytes-append, bytes-length}
 use Rattle.typst_lines.proofs.PlaceLemmas.{scalars-both}
-use Rattle.typst_lines.specs.Lines.{bytes, common_front, common_ends}
 use Rattle.typst_lines.specs.Replacement.{Replaces}
 
 -- ---- characters

@@ -1,18 +1,10 @@
 -- Facts on positions: units, lines and columns, and the ways back.
-use Rattle.std.proofs.Common.{◌≡◌, ◌≤◌, ◌<◌, suc, Bool, length, ℕ, ◌+◌, ◌-◌, ◌==◌, ◌&&◌, List, [], ◌∷◌, ◌++◌, slice_get, is_none, Option, Some, None, refl, sym, ap, subst, ◌∙◌, true, false, arith, take, drop, slice_range, filter, nat_le, nat_lt, take_at, unwrap_or, length-append, take-add, drop-drop, length-take-le, length-drop}
-use Rattle.std.proofs.lemmas.Bool.Decides.{nat_tests}
+use Rattle.typst_lines.proofs.Cited.{◌≡◌, ◌≤◌, ◌<◌, suc, Bool, length, ℕ, ◌+◌, ◌-◌, ◌==◌, ◌&&◌, List, [], ◌∷◌, ◌++◌, slice_get, is_none, Option, Some, None, refl, sym, ap, subst, ◌∙◌, true, false, arith, take, drop, slice_range, filter, nat_le, nat_lt, take_at, unwrap_or, length-append, take-add, drop-drop, length-take-le, length-drop, nat_tests, chars-append, IsUtf8-between, IsCharBoundary-end, option_map, chars, IsUtf8, IsCharBoundary, Place, place_at, moved, scout, char_width, utf16_len, units, bytes, places_from, line_table, line_of, line_start, line_range, column_of, byte_at, byte_reached, byte_at_utf16, least_place, utf16_before, IsLine, IsLineOf, IsLineUpTo, Line, Range}
 use Rattle.std.proofs.lemmas.List.{take-append-drop}
-use Rattle.std.proofs.lemmas.Str.{chars-append, IsUtf8-between, IsCharBoundary-end}
 use mathlib.Core.List.{reverse_aux}
-use Rattle.std.specs.Prelude.{option_map}
-use Rattle.std.specs.Str.{chars, IsUtf8, IsCharBoundary}
-use Rattle.std.specs.declared.ops.Range.{Range}
 use Rattle.typst_lines.proofs.LineTable.{units-append, bytes-append, bytes-front, units-front, bytes-text, chars-split, chars-range, utf16_len-positive, place-end, bytes-step}
 use Rattle.typst_lines.proofs.PlaceLemmas.{head-splits}
 use Rattle.typst_lines.proofs.TableOrder.{table-sound, table-next, line_of-next}
-use Rattle.typst_lines.specs.Place.{Place, place_at, moved, scout, char_width}
-use Rattle.typst_lines.specs.Lines.{utf16_len, units, bytes, places_from, line_table, line_of, line_start, line_range, column_of, byte_at, byte_reached, byte_at_utf16, least_place, utf16_before, IsLine, IsLineOf, IsLineUpTo}
-use Rattle.typst_lines.specs.declared.lines.Line.{Line}
 
 -- the units up to j are those up to i and those between
 pub units-range : (s : List ℕ) → IsUtf8 s → (i j : ℕ) → i ≤ j → IsCharBoundary s i → IsCharBoundary s j → utf16_before s i + units (chars (slice_range s i j)) ≡ utf16_before s j

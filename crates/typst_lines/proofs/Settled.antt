@@ -1,14 +1,7 @@
 -- The table of an edited text, once the lines of its stretch and those behind it have changed places.
-use Rattle.std.proofs.Common.{◌≡◌, ℕ, zero, suc, ◌+◌, ◌-◌, ◌<◌, ◌≤◌, List, [], ◌∷◌, ◌++◌, get_or, refl, length, map, take, drop, take_all, take_at, drop_at, take-append-drop, take-take, append_assoc, length-append, length-drop, length-take-le, ap, sym, ◌∙◌, arith}
-use Rattle.std.proofs.Math.Seq.{take-append_seam, drop-append_seam}
-use Rattle.std.proofs.Math.ListN.{set}
+use Rattle.typst_lines.proofs.Cited.{◌≡◌, ℕ, zero, suc, ◌+◌, ◌-◌, ◌<◌, ◌≤◌, List, [], ◌∷◌, ◌++◌, get_or, refl, length, map, take, drop, take_all, take_at, drop_at, take-append-drop, take-take, append_assoc, length-append, length-drop, length-take-le, ap, sym, ◌∙◌, arith, take-append_seam, drop-append_seam, take-append-le, length-map, moved_line, units_at, settled_lines, lines_behind, Line, set, slice_range}
 use lib.Seq.{paste}
-use Rattle.std.proofs.lemmas.List.{take-append-le, length-map}
 use Rattle.std.proofs.lemmas.List.Edits.{map_over_more}
-use Rattle.std.specs.Prelude.{slice_range}
-use Rattle.typst_lines.specs.Edited.{moved_line, units_at}
-use Rattle.typst_lines.specs.Pending.{settled_lines, lines_behind}
-use Rattle.typst_lines.specs.declared.lines.Line.{Line}
 use Rattle.typst_lines.specs.declared.lines.Stretch.{Stretch}
 
 -- behind A stand first D and then P, then P and D, and then P, the rest of D, and what goes

@@ -1,11 +1,7 @@
 -- The stretches between line ends, and that they make the text with the line ends put back.
-use Rattle.std.proofs.Common.{◌≡◌, Bool, length, ℕ, ◌+◌, ◌&&◌, ◌==◌, if◌then◌else◌, List, [], ◌∷◌, ◌++◌, slice_get, Option, Some, None, refl, sym, ap, ◌∙◌, true, false, arith, take, append_assoc, append-nil, take_at, length-append, map, Bor}
-use Rattle.std.proofs.lemmas.Bool.Decides.{nat_tests}
-use Rattle.std.specs.Str.{chars}
+use Rattle.typst_lines.proofs.Cited.{◌≡◌, Bool, length, ℕ, ◌+◌, ◌&&◌, ◌==◌, if◌then◌else◌, List, [], ◌∷◌, ◌++◌, slice_get, Option, Some, None, refl, sym, ap, ◌∙◌, true, false, arith, take, append_assoc, append-nil, take_at, length-append, map, Bor, nat_tests, chars, is_newline, ends_line, line_end_len, stretches, line_ends, onto_first, woven, all_lack_newlines, Place, moved, moved_from, scout, passes}
 use Rattle.typst_lines.proofs.LineTable.{place-end}
 use Rattle.typst_lines.proofs.PlaceLemmas.{moved-step}
-use Rattle.typst_lines.specs.Newline.{is_newline, ends_line, line_end_len, stretches, line_ends, onto_first, woven, all_lack_newlines}
-use Rattle.typst_lines.specs.Place.{Place, moved, moved_from, scout, passes}
 use Rattle.typst_lines.proofs.CommonEnds.{ahead-step}
 
 -- characters put before the first of some texts

@@ -1,9 +1,6 @@
 -- Steps back over the characters at an end.
-use Rattle.std.proofs.Common.{◌≡◌, ℕ, suc, ◌+◌, Bool, true, false, List, [], ◌∷◌, ◌++◌, length, reverse, take, drop, slice_get, Some, refl, sym, ap, ◌∙◌, arith, append_assoc}
-use Rattle.std.proofs.Math.Seq.{take-append_seam}
+use Rattle.typst_lines.proofs.Cited.{◌≡◌, ℕ, suc, ◌+◌, Bool, true, false, List, [], ◌∷◌, ◌++◌, length, reverse, take, drop, slice_get, Some, refl, sym, ap, ◌∙◌, arith, append_assoc, take-append_seam, prefix_len, Place, moved_back}
 use Rattle.std.proofs.lemmas.List.{reverse-append, reverse-reverse, take-append-drop}
-use Rattle.std.specs.List.{prefix_len}
-use Rattle.typst_lines.specs.Place.{Place, moved_back}
 use Rattle.typst_lines.specs.Ends.{without_last}
 
 abbrev at : List ℕ → List ℕ → Place

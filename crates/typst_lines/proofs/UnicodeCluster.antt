@@ -1,14 +1,6 @@
 -- The first grapheme cluster of a line in bytes and in characters.
-use Rattle.std.proofs.Common.{◌≡◌, ◌<◌, ℕ, true, false, List, [], ◌∷◌, map, take, length, ap, arith, take_at}
-use Rattle.std.specs.Char.{is_ascii}
-use Rattle.std.specs.List.{concat, list_all}
-use Rattle.std.specs.Prelude.{encode_utf8_all}
-use Rattle.std.specs.Str.{chars, IsUtf8}
-use Rattle.unicode_segmentation.specs.Grapheme.{is_grapheme_break}
-use Rattle.unicode_segmentation.specs.Segments.{cut}
-use Rattle.typst_lines.specs.Classes.{kept_cluster}
+use Rattle.typst_lines.proofs.Cited.{◌≡◌, ◌<◌, ℕ, true, false, List, [], ◌∷◌, map, take, length, ap, arith, take_at, is_ascii, concat, list_all, chars, IsUtf8, cut, kept_cluster, is_grapheme_break, first_len, unicode_cluster, encode_utf8_all}
 use Rattle.typst_lines.specs.UnicodeLaws.{AreCut, cut-front}
-use Rattle.typst_lines.specs.UnicodeTables.{first_len, unicode_cluster}
 use Rattle.typst_lines.proofs.ClusterLemmas.{more}
 
 first_piece : (cs : List ℕ) (pieces : List (List ℕ)) (piece : List ℕ) (rest : List (List ℕ)) → concat pieces ≡ cs → map encode_utf8_all pieces ≡ piece ∷ rest

@@ -1,14 +1,9 @@
 -- What the code reads by what a token begins.
-use Rattle.std.proofs.Common.{◌≡◌, Option, sym, subst}
-use Rattle.typst_lines.specs.Classes.{CharClasses}
+use Rattle.typst_markup.proofs.Cited.{◌≡◌, Option, sym, subst, Level, Shape, View, Does, math_by, tail_by, CharClasses}
 use Rattle.typst_language.specs.declared.calls.ChainSet.{ChainSet}
-use Rattle.typst_language.specs.Meaning.{Level}
-use Rattle.typst_language.specs.Shape.{Shape}
-use Rattle.typst_language.specs.View.{View, Does}
 use Rattle.typst_markup.specs.declared.math_heads.Callee.{Callee}
 use Rattle.typst_markup.specs.declared.math_heads.MathHead.{MathHead}
 use Rattle.typst_markup.specs.declared.math_heads.MathTail.{MathTail}
-use Rattle.typst_markup.specs.MathExpressions.{math_by, tail_by}
 
 pub at-head : {l : Level} (k : CharClasses) (h i : MathHead) {a : Callee} {old new : View} → h ≡ i → Does l (math_by k i) a old new → Does l (math_by k h) a old new
 at-head {l = l} k h i {a = a} {old = old} {new = new} e d = subst (λ (x : MathHead). Does l (math_by k x) a old new) (sym e) d

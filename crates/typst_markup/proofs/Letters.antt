@@ -1,16 +1,9 @@
 -- Whether a text is a letter, or several of them, by what a scanner saw of it.
-use Rattle.std.proofs.Common.{◌≡◌, ℕ, Bool, true, false, ◌||◌, List, [], ◌∷◌, Option, Some, None, refl, sym, ap, ◌∙◌}
-use Rattle.std.specs.List.{list_all}
-use Rattle.std.specs.Option.{is_none}
+use Rattle.typst_markup.proofs.Cited.{◌≡◌, ℕ, Bool, true, false, ◌||◌, List, [], ◌∷◌, Option, Some, None, refl, sym, ap, ◌∙◌, arith, Place, place_at, moved, moved_from, scout, are_letters, is_alphabetic, list_all, is_none, chars, CharClasses}
 use Rattle.std.specs.Prelude.{slice_get}
-use Rattle.std.specs.Str.{chars}
-use Rattle.typst_lines.specs.Classes.{CharClasses}
-use Rattle.typst_lines.specs.Place.{Place, place_at, moved, moved_from, scout}
-use Rattle.typst_markup.specs.MathExpressions.{are_letters, is_alphabetic}
 
 none-of : (k : CharClasses) (cs : List ℕ) → slice_get cs 0 ≡ None → true ≡ are_letters k cs
-none-of k [] e = refl
-none-of k (c ∷ cs) e = absurd (cc)
+none-of k cs e = grind arith
 
 alone : (cs before : List ℕ) (c : ℕ) → slice_get cs 0 ≡ Some c → is_none (slice_get (moved_from 1 before cs).ahead 0) ≡ true → cs ≡ c ∷ []
 alone [] before c e f = absurd (cc)
@@ -23,12 +16,10 @@ several k (x ∷ []) before f = absurd (cc)
 several k (x ∷ y ∷ cs) before f = refl
 
 either-so : (a m b : Bool) → b ≡ a → b ≡ true → b ≡ (a || m)
-either-so true m b e f = e
-either-so false m b e f = absurd (cc)
+either-so a m b e f = grind arith
 
 either-by : (a m b r : Bool) → b ≡ a → b ≡ false → r ≡ m → r ≡ (a || m)
-either-by true m b r e f g = absurd (cc)
-either-by false m b r e f g = g
+either-by a m b r e f g = grind arith
 
 module _ (k : CharClasses) (text : List ℕ) (p : Place) (start : p ≡ place_at text 0) where
   from-start : p.ahead ≡ chars text

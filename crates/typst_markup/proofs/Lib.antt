@@ -8,4 +8,5 @@ pub mod Backslashes
 --   a production's clause        its own answers, by the steps of the machine; Begins: what begins an expression or goes on with it
 --   are_letters                  Letters
 pub mod Begins
+pub mod Cited
 pub mod Letters

@@ -1,13 +1,7 @@
 -- What is left of a search for names, row by row.
-use Rattle.std.proofs.Common.{◌≡◌, ℕ, ◌+◌, Bool, true, false, List, [], ◌∷◌, ◌++◌, length, refl, ap, sym, ◌∙◌, arith, append_assoc, append-nil}
-use Rattle.typst_tree.specs.Tree.{Forest, none, more, Tree, forest}
+use Rattle.typst_names.proofs.Cited.{◌≡◌, ℕ, ◌+◌, Bool, true, false, List, [], ◌∷◌, ◌++◌, length, refl, ap, sym, ◌∙◌, arith, append_assoc, append-nil, Forest, none, more, Tree, forest, left, left_all, steps_all, steps_left, is_end, names_in, is_nothing, Part, Name}
 use Rattle.typst_names.specs.Bytes as bytes
-use Rattle.typst_names.specs.NameRows.{left, left_all, steps_all, steps_left}
-use Rattle.typst_names.specs.Names.{is_end, names_in}
-use Rattle.typst_names.specs.Scopes.{is_nothing}
-use Rattle.typst_names.specs.declared.parts.Part.{Part}
 use Rattle.typst_names.specs.declared.parts.Part.TheVariants as part
-use Rattle.typst_names.specs.declared.scopes.Name.{Name}
 use Rattle.typst_names.specs.declared.scopes.Row.{Row}
 
 -- where nothing counts there are no names
@@ -16,10 +10,7 @@ nothing_in u a none = refl
 nothing_in u a (more h ks r) = rw (nothing_in u (bytes.inner a h) ks, nothing_in u (bytes.behind a h ks) r) refl
 
 pub nothing_left : (r : Row) → is_nothing r.part ≡ true → left r ≡ []
-nothing_left r e = elim r.part as (λ p. is_nothing p ≡ true → names_in p r.until r.start (forest r.trees.now) ≡ []) [
-  | part.Nothing ↦ λ e. nothing_in r.until r.start (forest r.trees.now)
-  | _ ↦ λ e. cc
-] e
+nothing_left r e = grind (arith, nothing_in)
 
 none_of : (p : Part) (u a : ℕ) (ts : List Tree) → length ts ≡ 0 → names_in p u a (forest ts) ≡ []
 none_of p u a [] e = refl

@@ -1,10 +1,7 @@
 -- What is left of a walk for roles, row by row.
-use Rattle.std.proofs.Common.{◌≡◌, ◌+◌, List, [], ◌∷◌, ◌++◌, length, Option, refl, ap, sym, ◌∙◌, arith, append_assoc, append-nil}
-use Rattle.typst_tree.specs.Tree.{Tree, forest}
+use Rattle.typst_names.proofs.Cited.{◌≡◌, ◌+◌, List, [], ◌∷◌, ◌++◌, length, Option, refl, ap, sym, ◌∙◌, arith, append_assoc, append-nil, Tree, forest, row, Role}
 use Rattle.typst_names.specs.RoleRows.{left, left_all, steps_all, steps_left}
-use Rattle.typst_names.specs.Roles.{row}
 use Rattle.typst_names.specs.declared.contexts.Context.{Context}
-use Rattle.typst_names.specs.declared.contexts.Role.{Role}
 use Rattle.typst_names.specs.declared.roles.Row.{Row}
 
 none_of : (c : Context) (ts : List Tree) → length ts ≡ 0 → row c (forest ts) ≡ []

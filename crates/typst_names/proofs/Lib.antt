@@ -5,6 +5,7 @@
 --   name_at                                     NamesAt: among, at_start, at_holding, at_step, at_end
 --   add_uses, last_hiding                       UsesFound: uses_step, hidden_step; last_found, last_passed
 -- HoldingNodes (around-before, around-within) and LeftNames (end_is) also serve the crates above.
+pub mod Cited
 pub mod HoldingNodes
 pub mod LeftNames
 pub mod LeftRoles

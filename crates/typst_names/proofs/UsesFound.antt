@@ -1,54 +1,18 @@
 -- One name more of those that may use a binding.
-use Rattle.std.proofs.Common.{◌≡◌, ℕ, Bool, true, false, ◌+◌, ◌-◌, ◌<◌, ◌≤◌, List, [], ◌∷◌, ◌++◌, length, take, drop, max, min, get_or, refl, ap, sym, ◌∙◌, arith, length-drop, append_assoc, inl, inr, add-one}
-use Rattle.std.specs.Prelude.{Some, if◌then◌else◌, nat_lt, slice_get, slice_range}
+use Rattle.typst_names.proofs.Cited.{◌≡◌, ℕ, Bool, true, false, ◌+◌, ◌-◌, ◌<◌, ◌≤◌, List, [], ◌∷◌, ◌++◌, length, take, drop, max, get_or, refl, ap, sym, ◌∙◌, arith, append_assoc, add-one, nat_tests, drop_more, take_more, hidden, hides, hides_up_to, last_hiding, means, stands_if, uses, Name}
+use Rattle.std.specs.Prelude.{Some, if◌then◌else◌, nat_lt, slice_get}
 use Rattle.std.proofs.lemmas.Option.{slice_get-get_or}
-use Rattle.std.proofs.lemmas.Bool.Decides.{leb_tells, nat_tests}
-use Rattle.std.proofs.lemmas.List.{drop_all, drop_more, take_all, take_more}
-use Rattle.typst_names.specs.Meanings.{hidden, hides, hides_up_to, last_hiding, means, stands_if, uses}
 use Rattle.typst_names.specs.declared.bindings.Occurrence.{Occurrence}
 use Rattle.typst_names.specs.declared.bindings.OccurrenceKind.TheVariants as stands
-use Rattle.typst_names.specs.declared.scopes.Name.{Name}
 
 pub hidden_push : (text w : List ℕ) (ns : List Name) (n : Name) → hidden text w (ns ++ n ∷ []) ≡ max (hidden text w ns) (hides_up_to text w n)
 hidden_push text w [] n = omega arith
 hidden_push text w (m ∷ ns) n = omega (arith, hidden_push text w ns n)
 
-empty_range : (t : List ℕ) (s e : ℕ) → e ≤ s → slice_range t s e ≡ []
-empty_range t s e h = let none : e - s ≡ 0 = omega (arith, h) in ap (λ k. take k (drop s t)) none
-
--- a range is as far as the text has it
-pub clamped : (t : List ℕ) (s e : ℕ) → slice_range t (min s (min e (length t))) (min e (length t)) ≡ slice_range t s e
-clamped t s e =
-    let m : ℕ = min e (length t) in
-    elim (leb_tells s m) [
-      | inl within ↦
-          let first : min s m ≡ s = omega (arith, within.1) in
-          let all : slice_range t s m ≡ slice_range t s e = elim (leb_tells e (length t)) [
-            | inl le ↦ let same : m ≡ e = omega (arith, le.1) in ap (slice_range t s) same
-            | inr gt ↦
-                let long : length (drop s t) ≡ length t - s = length-drop s t in
-                take_all (m - s) (drop s t) (omega (arith, long, gt.1)) ∙ sym (take_all (e - s) (drop s t) (omega (arith, long, gt.1)))
-          ] in
-          ap (λ k. slice_range t k m) first ∙ all
-      | inr past ↦
-          let none : slice_range t (min s m) m ≡ [] = empty_range t (min s m) m (omega (arith, past.1)) in
-          let other : slice_range t s e ≡ [] = elim (leb_tells e s) [
-            | inl le ↦ empty_range t s e le.1
-            | inr lt ↦
-                let gone : drop s t ≡ [] = drop_all s t (omega (arith, past.1, lt.1)) in
-                take_all (e - s) (drop s t) (omega (arith, ap length gone)) ∙ gone
-          ] in
-          none ∙ sym other
-    ]
-
 -- one name more was looked at
 use_more : (text w : List ℕ) (u i : ℕ) (ns : List Name) (n : Name) → i < length ns → n ≡ get_or ns i n
     → uses text w u (take i ns) (drop i ns) ≡ stands_if (means text w u (hidden text w (take i ns)) n) stands.Use n ++ uses text w u (take (i + 1) ns) (drop (i + 1) ns)
-use_more text w u i ns n l e =
-    let later : drop i ns ≡ n ∷ drop (i + 1) ns = drop_more ns i n l ∙ ap (λ m. m ∷ drop (i + 1) ns) (sym e) in
-    let so_far : take (i + 1) ns ≡ take i ns ++ n ∷ [] = take_more ns i n l ∙ ap (λ m. take i ns ++ m ∷ []) (sym e) in
-    ap (uses text w u (take i ns)) later
-    ∙ ap (λ ms. stands_if (means text w u (hidden text w (take i ns)) n) stands.Use n ++ uses text w u ms (drop (i + 1) ns)) (sym so_far)
+use_more text w u i ns n l e = grind (arith, drop_more, take_more)
 
 -- a name that is there is read the same whatever stands for one that isn't
 read_same : (ns : List Name) (i : ℕ) (d : Name) → i < length ns → get_or ns i d ≡ get_or ns i (get_or ns i d)
@@ -56,14 +20,7 @@ read_same ns i d l = let e : Some (get_or ns i d) ≡ Some (get_or ns i (get_or 
 
 pub uses_step : (text w : List ℕ) (u i h : ℕ) (ns : List Name) (d : Name) (old new all : List Occurrence) (b : Bool) → i < length ns → new ≡ old ++ stands_if b stands.Use (get_or ns i d) → b ≡ means text w u h (get_or ns i d)
     → h ≡ hidden text w (take i ns) → old ++ uses text w u (take i ns) (drop i ns) ≡ all → new ++ uses text w u (take (i + 1) ns) (drop (i + 1) ns) ≡ all
-uses_step text w u i h ns d old new all b l added is so_far before =
-    let n : Name = get_or ns i d in
-    let rest : List Occurrence = uses text w u (take (i + 1) ns) (drop (i + 1) ns) in
-    let holds : b ≡ means text w u (hidden text w (take i ns)) n = is ∙ ap (λ k. means text w u k n) so_far in
-    ap (λ xs. xs ++ rest) (added ∙ ap (λ v. old ++ stands_if v stands.Use n) holds)
-    ∙ append_assoc old (stands_if (means text w u (hidden text w (take i ns)) n) stands.Use n) rest
-    ∙ ap (λ xs. old ++ xs) (sym (use_more text w u i ns n l (read_same ns i d l)))
-    ∙ before
+uses_step text w u i h ns d old new all b l added is so_far before = grind (arith, append_assoc, use_more, read_same)
 
 pub hidden_step : (text w : List ℕ) (i h x m : ℕ) (ns : List Name) (d : Name) → i < length ns → m ≡ max h x → x ≡ hides_up_to text w (get_or ns i d) → h ≡ hidden text w (take i ns) → m ≡ hidden text w (take (i + 1) ns)
 hidden_step text w i h x m ns d l most is so_far =

@@ -1,18 +1,9 @@
 -- What the steps of a source's calls give, for the answers of their clauses.
-use Rattle.std.proofs.Common.{◌≡◌, ℕ, ◌+◌, ◌-◌, ◌≤◌, Bool, true, false, List, length, Option, Some, None, refl, sym, ap, subst, ◌∙◌, arith}
-use Rattle.std.specs.Prelude.{OnOk, IsErrAnd, not, nat_eq, option_and_then, option_map, slice_range}
-use Rattle.std.specs.Prelude.{Result, Err}
+use Rattle.typst_parser.proofs.Cited.{◌≡◌, ℕ, ◌+◌, ◌-◌, ◌≤◌, Bool, true, false, List, length, Option, Some, None, refl, sym, ap, subst, ◌∙◌, arith, Result, Err, IsCharBoundary, Range, Bytes, Tree, Held, edited, file_of, numbered_in, top, found, is_in_file, bytes_in, range_of, OnOk, IsErrAnd, not, nat_eq, option_and_then, option_map, slice_range}
 use Rattle.std.specs.Option.{option_eq}
-use Rattle.std.specs.Str.{IsCharBoundary}
-use Rattle.std.specs.declared.ops.Range.{Range}
-use Rattle.typst_kinds.specs.Span.{Bytes}
 use Rattle.typst_kinds.specs.declared.error.SourceError.{SourceError}
 use Rattle.typst_lines.specs.Replacement.{Replaces}
-use Rattle.typst_tree.specs.Tree.{Tree}
 use Rattle.typst_tree.specs.Steps.{At, find_span, find_number, offset_of, end_of}
-use Rattle.typst_parser.specs.Held.{Held}
-use Rattle.typst_parser.specs.Headline.{edited, file_of, numbered_in}
-use Rattle.typst_parser.specs.Find.{top, found, is_in_file, bytes_in, range_of}
 
 -- ---- a span of the file, or of another one
 

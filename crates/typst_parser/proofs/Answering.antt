@@ -1,41 +1,8 @@
 -- From candidates that are asked one after the other to the answer of an edit.
-use Rattle.std.proofs.Common.{◌≡◌, ℕ, zero, suc, ◌≤◌, ◌<◌, ◌^◌, Bool, IsTrue, List, [], ◌∷◌, ◌++◌, length, take, drop, Option, Some, None, Ok, refl, ap, sym, subst, ◌∙◌, arith}
-use Rattle.std.proofs.lemmas.Option.{same_Some}
-use Rattle.std.specs.List.{slice_get}
-use Rattle.std.specs.Prelude.{IfOk, IfSome, Result}
+use Rattle.typst_parser.proofs.Cited.{◌≡◌, ℕ, zero, suc, ◌≤◌, ◌<◌, ◌^◌, Bool, IsTrue, List, [], ◌∷◌, ◌++◌, length, take, drop, Option, Some, None, Ok, refl, ap, sym, subst, ◌∙◌, arith, same_Some, slice_get, IfOk, IfSome, Result, Range, CharClasses, bytes-length, width, Tree, bare, text_of, At, Reaches, kids_of, replaced_at, Candidate, Units, end_of, spliced, log, tree, leaves, IsAnswer, Refused, part, entries_in, StandsIn, Among, Every, listed, candidate-places-law, in-order, tree-inner, among, Fails, IsPart, Speaks, TextReplacement, Holds, Makes, candidates, text_before, HasTaken, NonePassesOf, Takes, TakesFirst, Asked, ReparsedPart, Reread, Replacement, joined_bare, answer-tree-law, opens-apart-law}
 use Rattle.std.specs.declared.alloc.AllocError.{AllocError}
-use Rattle.std.specs.declared.ops.Range.{Range}
-use Rattle.typst_lines.specs.Classes.{CharClasses}
-use Rattle.typst_lines.proofs.LineTable.{bytes-length}
-use Rattle.typst_tokens.specs.Sight.{width}
-use Rattle.typst_tree.specs.Tree.{Tree, bare, text_of}
-use Rattle.typst_tree.specs.Replace.{At, Reaches, kids_of, replaced_at}
-use Rattle.typst_tree.proofs.Numbering.{joined_bare}
 use Rattle.typst_candidates.specs.Candidates as candidate
-use Rattle.typst_candidates.specs.Candidates.{Candidate}
-use Rattle.typst_candidates.specs.Entries.{Units, end_of, spliced}
-use Rattle.typst_edits.specs.Grammar.{log, tree}
-use Rattle.typst_edits.proofs.Whole.{leaves}
-use Rattle.typst_edits.specs.Answer.{IsAnswer, Refused}
-use Rattle.typst_edits.specs.Answer.IsAnswer.{part}
-use Rattle.typst_edits.specs.BlockTest.{entries_in}
-use Rattle.typst_edits.specs.CandidatePlaces.{StandsIn}
-use Rattle.typst_edits.specs.Edit.{Among}
-use Rattle.typst_edits.specs.Every.{Every}
-use Rattle.typst_edits.specs.PieceNotes.{listed}
-use Rattle.typst_edits.proofs.AnswerTree.{answer-tree-law}
-use Rattle.typst_edits.proofs.CandidatePlaces.{candidate-places-law}
-use Rattle.typst_edits.proofs.CandidateWorth.{in-order, tree-inner}
-use Rattle.typst_edits.proofs.Edit.{among}
-use Rattle.typst_edits.proofs.OpensApart.{opens-apart-law}
 use Rattle.typst_edits.proofs.Unique.{unique-law}
-use Rattle.typst_parser.specs.Attempt.{Fails, IsPart, Speaks}
-use Rattle.typst_parser.specs.TextReplacement.{TextReplacement, Holds, Makes, candidates, text_before}
-use Rattle.typst_parser.specs.Reparse.{HasTaken, NonePassesOf, Takes, TakesFirst}
-use Rattle.typst_parser.specs.declared.attempt.Asked.{Asked}
-use Rattle.typst_parser.specs.declared.attempt.ReparsedPart.{ReparsedPart}
-use Rattle.typst_parser.specs.declared.edited.Reread.{Reread}
-use Rattle.typst_parser.specs.declared.replacement.Replacement.{Replacement}
 use Rattle.typst_parser.proofs.Numbers.{entries-end}
 use Rattle.typst_parser.proofs.Places.{bytes-width}
 

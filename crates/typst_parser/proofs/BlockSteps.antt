@@ -1,27 +1,5 @@
 -- The steps of reading a block again.
-use Rattle.std.proofs.Common.{◌≡◌, ℕ, suc, ◌+◌, ◌-◌, ◌≤◌, ◌<◌, ◌^◌, true, drop, Option, Some, None, ap, sym, subst, ◌∙◌, arith}
-use Rattle.std.proofs.lemmas.Option.{same_Some}
-use Rattle.std.specs.Str.{IsCharBoundary, chars}
-use Rattle.typst_kinds.specs.declared.mode.SyntaxMode.{SyntaxMode}
-use Rattle.typst_lines.specs.Classes.{CharClasses}
-use Rattle.typst_lines.specs.Place.{moved, place_at}
-use Rattle.typst_tokens.specs.Sight.{position, width}
-use Rattle.typst_tree.specs.Tree.{Tree}
-use Rattle.typst_edits.specs.Block.{Block}
-use Rattle.typst_candidates.specs.Candidates.{Candidate}
-use Rattle.typst_candidates.specs.Cursors.{closing_of}
-use Rattle.typst_candidates.specs.Entries.{Units}
-use Rattle.typst_candidates.specs.Records.{AllFit, opening_of}
-use Rattle.typst_edits.specs.ReadPart.{ReadPart}
-use Rattle.typst_edits.specs.Grammar.{start_of}
-use Rattle.typst_edits.specs.Part.{IsBlock, block_alone}
-use Rattle.typst_edits.specs.BlockTest.{FoundBlock, SaysBlock}
-use Rattle.typst_edits.specs.Edit.{Among, text_with}
-use Rattle.typst_parser.specs.Attempt.{Fails, IsPart, Speaks}
-use Rattle.typst_parser.specs.TextReplacement.{TextReplacement, candidates, text_after}
-use Rattle.typst_parser.specs.Steps.{IsReadBlock, entries_of}
-use Rattle.typst_parser.specs.declared.attempt.Asked.{Asked}
-use Rattle.typst_parser.specs.declared.attempt.ReparsedPart.{ReparsedPart}
+use Rattle.typst_parser.proofs.Cited.{◌≡◌, ℕ, suc, ◌+◌, ◌-◌, ◌≤◌, ◌<◌, ◌^◌, true, drop, Option, Some, None, ap, sym, subst, ◌∙◌, arith, same_Some, IsCharBoundary, chars, CharClasses, moved, place_at, position, width, Tree, Candidate, closing_of, Units, AllFit, opening_of, ReadPart, start_of, IsBlock, block_alone, FoundBlock, SaysBlock, Among, text_with, Fails, IsPart, Speaks, TextReplacement, candidates, text_after, IsReadBlock, entries_of, Asked, ReparsedPart, SyntaxMode, Block}
 use Rattle.typst_parser.proofs.Blocks.{block-closes, block-end-fails, block-found, block-looks-fail, block-part, block-says, block-starts}
 use Rattle.typst_parser.proofs.Answering.{candidate-order, entries-are}
 use Rattle.typst_parser.proofs.Places.{part-fits, place-boundary, place-is, position-within, sides-of}

@@ -1,31 +1,6 @@
 -- Blocks that are read by themselves.
-use Rattle.std.proofs.Common.{◌≡◌, ℕ, suc, ◌+◌, ◌-◌, ◌≤◌, ◌<◌, true, List, length, drop, Some, None, ap, sym, subst, ◌∙◌, arith}
-use Rattle.std.proofs.lemmas.Option.{slice_get_within}
-use Rattle.typst_kinds.specs.declared.mode.SyntaxMode.{SyntaxMode}
-use Rattle.typst_lines.specs.Classes.{CharClasses}
-use Rattle.typst_lines.specs.Place.{Place, moved}
-use Rattle.typst_tokens.specs.Sight.{position, width}
-use Rattle.typst_tree.specs.Tree.{Tree}
-use Rattle.typst_tree.specs.Replace.{replaced_at}
-use Rattle.typst_edits.specs.Block.{Block}
-use Rattle.typst_candidates.specs.declared.entry.Entry.{Entry}
-use Rattle.typst_candidates.specs.Candidates.{Candidate}
-use Rattle.typst_candidates.specs.Cursors.{closing_of}
-use Rattle.typst_candidates.specs.Entries.{Units, spliced, units_of}
-use Rattle.typst_candidates.specs.Records.{opening_of}
-use Rattle.typst_edits.specs.ReadPart.{ReadPart}
-use Rattle.typst_edits.specs.Grammar.{log}
-use Rattle.typst_edits.specs.Part.{IsBlock}
-use Rattle.typst_edits.specs.BlockTest.{FoundBlock, PassesAlone, SaysBlock, entries_alone, entries_in, front_in, rear_in}
-use Rattle.typst_edits.specs.Edit.{Among, text_with}
-use Rattle.typst_edits.specs.Frame.{Gives}
+use Rattle.typst_parser.proofs.Cited.{◌≡◌, ℕ, suc, ◌+◌, ◌-◌, ◌≤◌, ◌<◌, true, List, length, drop, Some, None, ap, sym, subst, ◌∙◌, arith, slice_get_within, CharClasses, Place, moved, position, width, Tree, replaced_at, Entry, Candidate, closing_of, Units, spliced, units_of, opening_of, ReadPart, log, IsBlock, FoundBlock, PassesAlone, SaysBlock, entries_alone, entries_in, front_in, rear_in, Among, text_with, Gives, Fails, IsPart, TextReplacement, Holds, Makes, candidates, text_before, entries_of, ReparsedPart, Replacement, in-order-law, SyntaxMode, Block}
 use Rattle.typst_edits.proofs.BlockTest.{block-test-law}
-use Rattle.typst_parser.specs.Attempt.{Fails, IsPart}
-use Rattle.typst_parser.specs.TextReplacement.{TextReplacement, Holds, Makes, candidates, text_before}
-use Rattle.typst_parser.specs.Steps.{entries_of}
-use Rattle.typst_parser.specs.declared.attempt.ReparsedPart.{ReparsedPart}
-use Rattle.typst_parser.specs.declared.replacement.Replacement.{Replacement}
-use Rattle.typst_edits.proofs.InOrder.{in-order-law}
 use Rattle.typst_parser.proofs.Numbers.{After, closing-after}
 use Rattle.typst_parser.proofs.Runs.{shift-in, shift-out, width-take}
 

@@ -1,17 +1,5 @@
 -- An edit in bytes and in characters.
-use Rattle.std.proofs.Common.{◌≡◌, ℕ, ◌+◌, ◌-◌, ◌<◌, ◌≤◌, ◌^◌, List, ◌++◌, length, take, drop, length-append, length-take-le, length-drop, append_assoc, ap, sym, subst, ◌∙◌, arith}
-use Rattle.std.specs.Str.{chars, IsCharBoundary, IsUtf8}
-use Rattle.std.specs.declared.ops.Range.{Range}
-use Rattle.std.proofs.lemmas.List.{drop-take}
-use Rattle.std.proofs.lemmas.Str.{chars-append, IsUtf8-append, IsUtf8-drop, IsUtf8-take}
-use Rattle.typst_lines.specs.Lines.{bytes}
-use Rattle.typst_lines.proofs.LineTable.{bytes-text, chars-split, chars-range}
-use Rattle.typst_tokens.specs.Sight.{width}
-use Rattle.typst_edits.proofs.Widths.{width-append}
-use Rattle.typst_parser.specs.TextReplacement.{TextReplacement, text_before, text_after, Makes}
-use Rattle.typst_parser.specs.declared.replacement.Replacement.{Replacement}
-use Rattle.typst_parser.specs.Records.{IsEdited}
-use Rattle.typst_parser.specs.Tried.{change_by}
+use Rattle.typst_parser.proofs.Cited.{◌≡◌, ℕ, ◌+◌, ◌-◌, ◌<◌, ◌≤◌, ◌^◌, List, ◌++◌, length, take, drop, length-append, length-take-le, length-drop, append_assoc, ap, sym, subst, ◌∙◌, arith, chars, IsCharBoundary, IsUtf8, Range, drop-take, chars-append, IsUtf8-append, IsUtf8-drop, IsUtf8-take, bytes-text, chars-split, chars-range, width, width-append, TextReplacement, text_before, text_after, Makes, Replacement, IsEdited, change_by, bytes}
 
 bytes-width : (cs : List ℕ) → width cs ≡ bytes cs
 unfolding width

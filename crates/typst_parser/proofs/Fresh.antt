@@ -1,19 +1,5 @@
 -- A tree that was numbered as a whole, or not at all.
-use Rattle.std.proofs.Common.{◌≡◌, ℕ, ◌+◌, ◌-◌, ◌^◌, ◌≤◌, Bool, true, if◌then◌else◌, List, ◌++◌, Option, Some, None, refl, arith}
-use Rattle.std.specs.Prelude.{All, nat_le}
-use Rattle.std.proofs.lemmas.List.Elements.{All-nil, All-cons, All-append}
-use Rattle.std.proofs.lemmas.Option.{same_Some}
-use Rattle.typst_kinds.specs.Head.{spanned}
-use Rattle.typst_tree.specs.Tree.{Forest, none, more, Tree, places, preorder, nodes, bare, bare_forest, joined, text_of, with_each, synthesized}
-use Rattle.typst_tree.specs.Numbers.{placed, numbered}
-use Rattle.typst_tree.proofs.Numbering.{numbered_bare, text_numbered, nodes_numbered}
-use Rattle.std.specs.Str.{chars}
-use Rattle.typst_lines.specs.Classes.{CharClasses}
-use Rattle.typst_edits.specs.Grammar.{tree}
-use Rattle.typst_candidates.specs.Entries.{Units}
-use Rattle.typst_parser.specs.Held.{Held}
-use Rattle.typst_parser.specs.Headline.{file_of, Headline, AreNumbered, AreOrdered, numbered_in}
-use Rattle.typst_parser.specs.Records.{AreUnits, IsPlaced, IsPlacedBy, KeepsRecords}
+use Rattle.typst_parser.proofs.Cited.{◌≡◌, ℕ, ◌+◌, ◌-◌, ◌^◌, ◌≤◌, Bool, true, if◌then◌else◌, List, ◌++◌, Option, Some, None, refl, arith, All, nat_le, same_Some, Forest, none, more, Tree, places, preorder, nodes, bare, bare_forest, joined, text_of, with_each, synthesized, chars, CharClasses, tree, Units, Held, file_of, Headline, AreNumbered, AreOrdered, numbered_in, AreUnits, IsPlaced, IsPlacedBy, KeepsRecords, All-nil, All-cons, All-append, spanned, placed, numbered, numbered_bare, text_numbered, nodes_numbered}
 use Rattle.typst_parser.proofs.Replaced.{IsDetached, numbered-spans}
 
 -- ---- a tree without numbers

@@ -1,27 +1,6 @@
 -- Pieces of a content block's run.
-use Rattle.std.proofs.Common.{◌≡◌, ℕ, ◌+◌, ◌-◌, ◌≤◌, ◌<◌, List, length, ap, sym, subst, ◌∙◌, arith}
-use Rattle.std.specs.Global.{Vec}
-use Rattle.typst_lines.specs.Classes.{CharClasses}
-use Rattle.typst_lines.specs.Place.{Place, moved}
-use Rattle.typst_tokens.specs.Sight.{position, width}
-use Rattle.typst_tree.specs.Tree.{Tree}
-use Rattle.typst_tree.specs.Replace.{replaced_at}
+use Rattle.typst_parser.proofs.Cited.{◌≡◌, ℕ, ◌+◌, ◌-◌, ◌≤◌, ◌<◌, List, length, ap, sym, subst, ◌∙◌, arith, CharClasses, Place, moved, position, width, Tree, replaced_at, Entry, Candidate, spliced, units_of, ReadPart, log, IsBlock, SaysBlock, entries_in, text_with, Gives, FoundInner, FoundRun, IsPart, TextReplacement, text_before, IsRunOf, IsWithBlock, ReparsedPart, Run, Vec}
 use Rattle.typst_edits.specs.Block.TheVariants as block
-use Rattle.typst_candidates.specs.declared.entry.Entry.{Entry}
-use Rattle.typst_candidates.specs.Candidates.{Candidate}
-use Rattle.typst_candidates.specs.Entries.{spliced, units_of}
-use Rattle.typst_edits.specs.ReadPart.{ReadPart}
-use Rattle.typst_edits.specs.Grammar.{log}
-use Rattle.typst_edits.specs.Part.{IsBlock}
-use Rattle.typst_edits.specs.BlockTest.{SaysBlock, entries_in}
-use Rattle.typst_edits.specs.Edit.{text_with}
-use Rattle.typst_edits.specs.Frame.{Gives}
-use Rattle.typst_edits.specs.RunTest.{FoundInner, FoundRun}
-use Rattle.typst_parser.specs.Attempt.{IsPart}
-use Rattle.typst_parser.specs.TextReplacement.{TextReplacement, text_before}
-use Rattle.typst_parser.specs.Steps.{IsRunOf, IsWithBlock}
-use Rattle.typst_parser.specs.declared.attempt.ReparsedPart.{ReparsedPart}
-use Rattle.typst_parser.specs.declared.attempt.Run.{Run}
 use Rattle.typst_parser.proofs.Blocks.{alone-entries, says-after, says-within}
 
 module _ (k : CharClasses) (c : TextReplacement) (root : Tree) (d : Candidate) (f : FoundInner k c.front c.old c.new c.rest root d) (run : Run) (is : IsRunOf k c root d f run) where

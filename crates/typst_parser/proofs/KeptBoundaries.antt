@@ -1,24 +1,9 @@
 -- A place between the root's children, before the first that an edit changes, stays one.
-use Rattle.std.proofs.Common.{◌≡◌, ℕ, suc, ◌≤◌, ◌<◌, true, false, List, [], ◌∷◌, ◌++◌, length, map, take, drop, Some, ap, sym, ◌∙◌, arith}
-use Rattle.std.specs.Prelude.{◌==◌}
-use Rattle.std.proofs.Math.ListN.{set}
-use Rattle.std.proofs.lemmas.List.{set_split}
-use Rattle.std.proofs.lemmas.Option.{slice_get_within}
-use Rattle.typst_tree.specs.Tree.{Tree, bare, trees}
-use Rattle.typst_tree.specs.Boundaries.{IsBoundary}
-use Rattle.typst_tree.specs.Replace.{Reaches, kids_of, replaced_at}
+use Rattle.typst_parser.proofs.Cited.{◌≡◌, ℕ, suc, ◌≤◌, ◌<◌, true, false, List, [], ◌∷◌, ◌++◌, length, map, take, drop, Some, ap, sym, ◌∙◌, arith, set, set_split, slice_get_within, Tree, bare, trees, IsBoundary, Reaches, kids_of, replaced_at, below, inside, swapped_bare, trees_forest, IsRootEdge, LeadsBy, StandsIn, begins-at, at_path, first_changed, ◌==◌}
 use Rattle.typst_tree.specs.declared.boundary.Boundary.{Boundary}
-use Rattle.typst_tree.proofs.AlongPath.{below, inside}
 use Rattle.typst_tree.proofs.Boundaries.{shared}
-use Rattle.typst_tree.proofs.ReplacesChildren.{swapped_bare}
-use Rattle.typst_tree.proofs.SpansAside.{trees_forest}
 use Rattle.typst_candidates.specs.declared.candidate.Candidate as code
 use Rattle.typst_candidates.specs.declared.children.Edge.{Edge}
-use Rattle.typst_candidates.specs.Edges.{IsRootEdge, LeadsBy}
-use Rattle.typst_edits.specs.CandidatePlaces.{StandsIn}
-use Rattle.typst_edits.proofs.CandidatePlaces.{begins-at}
-use Rattle.typst_parser.specs.Attempt.{at_path}
-use Rattle.typst_parser.specs.Reparse.{first_changed}
 
 -- by its index and its byte it is one of those from which candidates are looked for
 pub root-edge : (root : Tree) (b : Boundary) → IsBoundary root b → IsRootEdge root (record { index = b.index; byte = b.bytes })

@@ -1,12 +1,9 @@
 -- The laws of runs that this crate uses, each applied to the laws that it needs.
-use Rattle.typst_edits.specs.RunTest.{InnerRunTestLaw, RunTestLaw}
-use Rattle.typst_edits.specs.Served.{ServedLaw}
-use Rattle.typst_edits.proofs.InOrder.{in-order-law}
+use Rattle.typst_parser.proofs.Cited.{InnerRunTestLaw, RunTestLaw, ServedLaw, in-order-law, opens-apart-law}
 use Rattle.typst_edits.proofs.RunNumbers.{inner-numbers-law, run-numbers-law}
 use Rattle.typst_edits.proofs.InnerRuns.{inner-pieces-of-law}
 use Rattle.typst_edits.proofs.RunTest.{inner-run-test-law as by-inner, run-test-law as by-own}
 use Rattle.typst_edits.proofs.Served.{served-law as by-first}
-use Rattle.typst_edits.proofs.OpensApart.{opens-apart-law}
 use Rattle.typst_edits.proofs.RootRuns.{root-pieces-of-law}
 
 pub run-test-law : RunTestLaw

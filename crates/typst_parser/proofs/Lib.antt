@@ -28,6 +28,7 @@ mod Runs
 mod Answering
 mod Blocks
 mod BlockSteps
+pub mod Cited
 mod Inner
 mod Serving
 mod RunSteps

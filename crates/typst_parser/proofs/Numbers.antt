@@ -1,24 +1,9 @@
 -- Numbers of entries.
-use Rattle.std.proofs.Common.{◌≡◌, ℕ, suc, ◌+◌, ◌-◌, ◌≤◌, ◌<◌, ◌==◌, ◌&&◌, ◌^◌, max, Bool, true, false, if◌then◌else◌, List, [], ◌∷◌, length, length-drop, take, drop, Option, Some, None, refl, ap, ◌∙◌, arith}
-use Rattle.std.proofs.lemmas.Option.{same_Some}
-use Rattle.typst_lines.specs.Classes.{CharClasses}
-use Rattle.typst_tokens.specs.Sight.{width}
-use Rattle.typst_edits.specs.Note.{Note}
-use Rattle.typst_edits.specs.Log.{Log}
-use Rattle.typst_candidates.specs.declared.entry.Entry.{Entry}
-use Rattle.typst_candidates.specs.Cursors.{closing_of, inside_after, leads, piece_of, token_at}
-use Rattle.typst_candidates.specs.Entries.{end_of, entries_by, is_after, last_start, rear_of, units_of}
-use Rattle.typst_candidates.specs.Nested.{Written}
-use Rattle.typst_candidates.specs.Records.{AllFit, IsRising, is_opening, opening_of}
+use Rattle.typst_parser.proofs.Cited.{◌≡◌, ℕ, suc, ◌+◌, ◌-◌, ◌≤◌, ◌<◌, ◌==◌, ◌&&◌, ◌^◌, max, Bool, true, false, if◌then◌else◌, List, [], ◌∷◌, length, length-drop, take, drop, Option, Some, None, refl, ap, ◌∙◌, arith, same_Some, CharClasses, width, Log, Entry, closing_of, inside_after, leads, piece_of, token_at, end_of, entries_by, is_after, last_start, rear_of, units_of, AllFit, IsRising, is_opening, opening_of, log, entries_in, listed, BeginsAt, in-order-law, Note, Written}
 use Rattle.typst_candidates.proofs.Nested.{token-of}
-use Rattle.typst_edits.specs.Grammar.{log}
-use Rattle.typst_edits.specs.BlockTest.{entries_in}
-use Rattle.typst_edits.specs.PieceNotes.{listed}
 use Rattle.typst_edits.specs.Rising.{Rising}
-use Rattle.typst_edits.specs.RunTest.{BeginsAt}
 use Rattle.typst_edits.proofs.Nested.{nested-law}
 use Rattle.typst_edits.proofs.Rising.{rising-law}
-use Rattle.typst_edits.proofs.InOrder.{in-order-law}
 
 -- ---- where they stand
 

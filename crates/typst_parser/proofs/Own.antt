@@ -1,19 +1,12 @@
 -- In a tree whose numbers are in order, a span and a number find their own node.
-use Rattle.std.proofs.Common.{◌≡◌, ℕ, zero, suc, ◌+◌, ◌-◌, ◌^◌, ◌≤◌, Bool, true, false, IsTrue, List, [], ◌∷◌, length, Option, Some, refl, sym, ap, subst, ◌∙◌, arith, eq-eqb, zero-add}
+use Rattle.typst_parser.proofs.Cited.{◌≡◌, ℕ, zero, suc, ◌+◌, ◌-◌, ◌^◌, ◌≤◌, Bool, true, false, IsTrue, List, [], ◌∷◌, length, Option, Some, refl, sym, ap, subst, ◌∙◌, arith, eq-eqb, zero-add, none-some, same_Some, Range, Bytes, number_of, Tree, places, nodes, saturated, IsNumberedIn, AreNumbered, file_of, top, found, range_of, FindsOwn, GivesOwn}
 use Rattle.std.specs.Prelude.{nat_lt, slice_get, option_map}
 use Rattle.std.proofs.lemmas.Bool.Decides.{nat_tests}
-use Rattle.std.proofs.lemmas.Option.{none-some, same_Some}
-use Rattle.std.specs.declared.ops.Range.{Range}
-use Rattle.typst_kinds.specs.Span.{Bytes}
-use Rattle.typst_kinds.specs.Span.{number_of}
-use Rattle.typst_tree.specs.Tree.{Tree, places, nodes, saturated}
 use Rattle.typst_tree.specs.Ordered.{IsKey}
 use Rattle.typst_tree.specs.Steps.{At, at, find_span, find_number}
 use Rattle.typst_tree.specs.Walks.{first_at, has_span, has_number, is_numbered, same_place}
 use Rattle.typst_tree.proofs.SingleNodes.{place_self, place_same}
 use Rattle.typst_tree.proofs.RisingNumbers.{Rising, rising_from}
-use Rattle.typst_parser.specs.Headline.{IsNumberedIn, AreNumbered, file_of}
-use Rattle.typst_parser.specs.Find.{top, found, range_of, FindsOwn, GivesOwn}
 use Rattle.typst_parser.proofs.Replaced.{all-at}
 
 abbrev number : Tree → ℕ

@@ -1,12 +1,5 @@
 -- Nodes at the ends of paths, and the bytes at which they begin.
-use Rattle.std.proofs.Common.{◌≡◌, ℕ, zero, suc, ◌+◌, ◌≤◌, ◌<◌, ◌^◌, List, [], ◌∷◌, ◌++◌, append-nil, length, length-append, length-take-le, get_or, take, drop, Some, refl, ap, sym, subst, ◌∙◌, arith}
-use Rattle.std.proofs.lemmas.List.{at_drop_more}
-use Rattle.std.proofs.lemmas.Option.{slice_get_read}
-use Rattle.std.specs.List.{slice_get}
-use Rattle.typst_tree.specs.Tree.{Tree, forest, trees, joined, saturated, text_of}
-use Rattle.typst_tree.specs.Replace.{At, kids_of}
-use Rattle.typst_tree.specs.Laws.{AtPath, or_none, start_at, start_in}
-use Rattle.typst_tree.proofs.SpansAside.{trees_forest, forest_trees}
+use Rattle.typst_parser.proofs.Cited.{◌≡◌, ℕ, zero, suc, ◌+◌, ◌≤◌, ◌<◌, ◌^◌, List, [], ◌∷◌, ◌++◌, append-nil, length, length-append, length-take-le, get_or, take, drop, Some, refl, ap, sym, subst, ◌∙◌, arith, at_drop_more, slice_get_read, slice_get, Tree, forest, trees, joined, saturated, text_of, At, kids_of, AtPath, or_none, start_at, start_in, trees_forest, forest_trees}
 
 pub children-are : (t : Tree) (xs : List Tree) → forest xs ≡ t.kids → xs ≡ kids_of t
 children-are t xs e = sym (trees_forest xs) ∙ ap trees e

@@ -1,14 +1,7 @@
 -- Pieces that are read one after the other up to a byte.
-use Rattle.std.proofs.Common.{◌≡◌, inl, inr, ℕ, ◌+◌, ◌<◌, Bool, true, List, refl, ap, sym, subst, ◌∙◌, arith}
+use Rattle.typst_parser.proofs.Cited.{◌≡◌, inl, inr, ℕ, ◌+◌, ◌<◌, Bool, true, List, refl, ap, sym, subst, ◌∙◌, arith, CharClasses, Entry, HasRead, Reading, byte_after, read_by, MeetsOn, Fit, Grows, HasReadSome, HasReadTo, AllGo}
 use Rattle.std.proofs.lemmas.Bool.{cases_lt}
-use Rattle.typst_lines.specs.Classes.{CharClasses}
-use Rattle.typst_candidates.specs.declared.entry.Entry.{Entry}
 use Rattle.typst_edits.specs.PieceReader.{PieceReader}
-use Rattle.typst_edits.specs.Part.{HasRead}
-use Rattle.typst_edits.specs.Pieces.{AllGo}
-use Rattle.typst_edits.specs.RunTest.{Reading, byte_after, read_by}
-use Rattle.typst_edits.specs.Served.{MeetsOn}
-use Rattle.typst_parser.specs.Steps.{Fit, Grows, HasReadSome, HasReadTo}
 use Rattle.typst_parser.proofs.Places.{moved-on}
 
 module _ (k : CharClasses) (r : Reading) where

@@ -1,21 +1,8 @@
 -- Places of a text in characters and in bytes.
-use Rattle.std.proofs.Common.{◌≡◌, ℕ, zero, suc, ◌+◌, ◌≤◌, ◌<◌, ◌^◌, ◌-◌, List, [], ◌∷◌, ◌++◌, length, take, drop, append_assoc, append-nil, reverse, refl, ap, sym, ◌∙◌, arith}
-use Rattle.std.specs.Str.{chars, IsUtf8, IsCharBoundary}
-use Rattle.std.proofs.lemmas.List.{reverse-append}
-use Rattle.typst_lines.specs.Lines.{bytes}
-use Rattle.typst_lines.specs.Place.{Place, moved, moved_from, place_at}
-use Rattle.typst_lines.proofs.LineTable.{bytes-text, chars-split, front-ahead, front-boundary, front-chars}
-use Rattle.typst_tokens.specs.Sight.{position, width}
+use Rattle.typst_parser.proofs.Cited.{◌≡◌, ℕ, zero, suc, ◌+◌, ◌≤◌, ◌<◌, ◌^◌, ◌-◌, List, [], ◌∷◌, ◌++◌, length, take, drop, append_assoc, append-nil, reverse, refl, ap, sym, ◌∙◌, arith, chars, IsUtf8, IsCharBoundary, reverse-append, Place, moved, moved_from, place_at, bytes-text, chars-split, front-ahead, front-boundary, front-chars, position, width, Tree, AllFit, start_of, ReadPart, Log, onto, width-append, width-moved, width-none, width-onto, bytes}
 use Rattle.typst_edits.specs.Ask.{Ask}
-use Rattle.typst_tree.specs.Tree.{Tree}
-use Rattle.typst_candidates.specs.Records.{AllFit}
-use Rattle.typst_edits.specs.Grammar.{start_of}
 use Rattle.typst_edits.specs.Part.{IsPart}
-use Rattle.typst_edits.specs.ReadPart.{ReadPart}
-use Rattle.typst_edits.specs.Log.{Log}
 use Rattle.typst_edits.proofs.BlockPart.{part-fits-law}
-use Rattle.typst_edits.proofs.Edit.{onto}
-use Rattle.typst_edits.proofs.Widths.{width-append, width-moved, width-none, width-onto}
 
 pub bytes-width : (cs : List ℕ) → width cs ≡ bytes cs
 unfolding width

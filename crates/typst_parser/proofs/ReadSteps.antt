@@ -1,26 +1,8 @@
 -- The run that a candidate is pieces of.
-use Rattle.std.proofs.Common.{◌≡◌, ℕ, zero, suc, ◌-◌, ◌<◌, ◌^◌, false, List, [], ◌∷◌, length, take, Option, Some, None, refl, ap, sym, subst, ◌∙◌, arith}
-use Rattle.std.proofs.lemmas.Option.{same_Some}
-use Rattle.std.specs.List.{slice_get}
-use Rattle.typst_lines.specs.Classes.{CharClasses}
-use Rattle.typst_tree.specs.Tree.{Tree, text_of}
-use Rattle.typst_tree.specs.Laws.{AtPath, start_at}
-use Rattle.typst_tree.specs.Replace.{At, Reaches, kids_of}
+use Rattle.typst_parser.proofs.Cited.{◌≡◌, ℕ, zero, suc, ◌-◌, ◌<◌, ◌^◌, false, List, [], ◌∷◌, length, take, Option, Some, None, refl, ap, sym, subst, ◌∙◌, arith, same_Some, slice_get, CharClasses, Tree, text_of, AtPath, start_at, At, Reaches, kids_of, Entry, opening_of, entries_in, Among, FoundInner, RunOf, IsReady, at_path, TextReplacement, candidates, text_before, Reads, ReadsInner, ServesFor, Run, Serving, Attempt}
 use Rattle.typst_candidates.specs.declared.candidate.Candidate as code
-use Rattle.typst_candidates.specs.declared.entry.Entry.{Entry}
-use Rattle.typst_candidates.specs.Records.{opening_of}
 use Rattle.typst_edits.specs.RunKind.TheVariants as of
-use Rattle.typst_edits.specs.BlockTest.{entries_in}
-use Rattle.typst_edits.specs.Edit.{Among}
-use Rattle.typst_edits.specs.RunTest.{FoundInner}
-use Rattle.typst_edits.specs.Served.{RunOf}
 use Rattle.typst_edits.specs.Served.RunOf.{inner, own}
-use Rattle.typst_parser.specs.Attempt.{IsReady, at_path}
-use Rattle.typst_parser.specs.TextReplacement.{TextReplacement, candidates, text_before}
-use Rattle.typst_parser.specs.Steps.{Reads, ReadsInner, ServesFor}
-use Rattle.typst_parser.specs.declared.attempt.Attempt.{Attempt}
-use Rattle.typst_parser.specs.declared.attempt.Run.{Run}
-use Rattle.typst_parser.specs.declared.attempt.Serving.{Serving}
 use Rattle.typst_parser.proofs.Answering.{candidate-stands, entries-are, root-fits}
 use Rattle.typst_parser.proofs.Inner.{run-found, run-some}
 use Rattle.typst_parser.proofs.Laws.{inner-run-test-law, run-test-law}

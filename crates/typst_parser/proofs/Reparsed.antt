@@ -1,38 +1,7 @@
 -- A tree that answers an edit.
-use Rattle.std.proofs.Common.{◌≡◌, ℕ, zero, suc, ◌+◌, ◌-◌, ◌<◌, ◌≤◌, ◌^◌, Bool, true, IsTrue, List, [], ◌∷◌, ◌++◌, length, take, drop, length-append, length-take-le, length-drop, Option, Some, None, ap, sym, subst, ◌∙◌, arith}
+use Rattle.typst_parser.proofs.Cited.{◌≡◌, ℕ, zero, suc, ◌+◌, ◌-◌, ◌<◌, ◌≤◌, ◌^◌, Bool, true, IsTrue, List, [], ◌∷◌, ◌++◌, length, take, drop, length-append, length-take-le, length-drop, Option, Some, None, ap, sym, subst, ◌∙◌, arith, chars, Range, encodes-chars, Tree, bare, forest, joined, text_of, start_at, start_in, or_none, At, Reaches, kids_of, replaced_at, replaces_text, start_le, text_bare, CharClasses, width, Candidate, IsAnswer, part, whole, StandsIn, Every, tree, log, listed, candidate-places-law, tree-inner, leaves, width-append, TextReplacement, text_before, text_after, Makes, Holds, candidates, Units, units_of, NonePasses, Takes, Reread, Replacement, Held, AreNumbered, AreOrdered, file_of, numbered_in, Answers, change_of, Edits, IsEdited, IsPlaced, IsPlacedBy, KeepsRecords, ReadsWhole, change_by, AreInOrder, IsNumbered, numbers_of}
 use Rattle.std.specs.Prelude.{IfSome, slice_get}
-use Rattle.std.specs.Str.{chars}
-use Rattle.std.specs.declared.ops.Range.{Range}
-use Rattle.std.proofs.lemmas.Str.{encodes-chars}
-use Rattle.typst_tree.specs.Tree.{Tree, bare, forest, joined, text_of}
-use Rattle.typst_tree.specs.Laws.{start_at, start_in, or_none}
-use Rattle.typst_tree.specs.Order.{AreInOrder, IsNumbered, numbers_of}
-use Rattle.typst_tree.specs.Replace.{At, Reaches, kids_of, replaced_at}
-use Rattle.typst_tree.proofs.ReplacesChildren.{replaces_text, start_le, text_bare}
-use Rattle.typst_lines.specs.Classes.{CharClasses}
-use Rattle.typst_tokens.specs.Sight.{width}
-use Rattle.typst_candidates.specs.Candidates.{Candidate}
-use Rattle.typst_edits.specs.Answer.{IsAnswer}
 use Rattle.typst_edits.specs.Answer as answer
-use Rattle.typst_edits.specs.Answer.IsAnswer.{part, whole}
-use Rattle.typst_edits.specs.CandidatePlaces.{StandsIn}
-use Rattle.typst_edits.specs.Every.{Every}
-use Rattle.typst_edits.specs.Grammar.{tree, log}
-use Rattle.typst_edits.specs.PieceNotes.{listed}
-use Rattle.typst_edits.proofs.CandidatePlaces.{candidate-places-law}
-use Rattle.typst_edits.proofs.CandidateWorth.{tree-inner}
-use Rattle.typst_edits.proofs.Whole.{leaves}
-use Rattle.typst_edits.proofs.Widths.{width-append}
-use Rattle.typst_parser.specs.TextReplacement.{TextReplacement, text_before, text_after, Makes, Holds, candidates}
-use Rattle.typst_candidates.specs.Entries.{Units, units_of}
-use Rattle.typst_parser.specs.Reparse.{NonePasses, Takes}
-use Rattle.typst_parser.specs.declared.edited.Reread.{Reread}
-use Rattle.typst_parser.specs.declared.replacement.Replacement.{Replacement}
-use Rattle.typst_parser.specs.Held.{Held}
-use Rattle.typst_parser.specs.Headline.{AreNumbered, AreOrdered, file_of, numbered_in}
-use Rattle.typst_parser.specs.Answers.{Answers, change_of}
-use Rattle.typst_parser.specs.Records.{Edits, IsEdited, IsPlaced, IsPlacedBy, KeepsRecords, ReadsWhole}
-use Rattle.typst_parser.specs.Tried.{change_by}
 use Rattle.typst_parser.proofs.Changed.{after, before, long-now, makes, utf8-now, width-chars}
 use Rattle.typst_parser.proofs.Fresh.{fresh-file, fresh-numbers, placed-new}
 use Rattle.typst_parser.proofs.Replaced.{Stays, replaced-stays, few-nodes}

@@ -1,18 +1,7 @@
 -- A tree of which children were replaced: its spans, its head and how many nodes it has.
-use Rattle.std.proofs.Common.{◌≡◌, ℕ, ◌+◌, ◌-◌, ◌*◌, ◌/◌, ◌^◌, ◌<◌, ◌≤◌, Bool, if◌then◌else◌, List, [], ◌∷◌, ◌++◌, take, drop, Option, Some, None, refl, sym, subst, arith}
+use Rattle.typst_parser.proofs.Cited.{◌≡◌, ℕ, ◌+◌, ◌-◌, ◌*◌, ◌/◌, ◌^◌, ◌<◌, ◌≤◌, Bool, if◌then◌else◌, List, [], ◌∷◌, ◌++◌, take, drop, Option, Some, None, refl, sym, subst, arith, set, slice_get_within, get_or_from_slice_get, number_of, Forest, none, more, Tree, forest, trees, places, preorder, count, nodes, kids_of, with_kids, in_file, swapped, exchanged, middle, back, replaced, replaced_at, Reaches, Along, along, exchange_some, exchange_none, All-nil, All-cons, All-head, All-tail, All-append, All-take, All-drop, All-set, Head, placed, stride, numbered, numbered_forest, numbered_list, upper_at, IsOrdered, IsNumbered}
 use Rattle.std.specs.Prelude.{All, option_map, slice_get, slice_range}
-use Rattle.std.proofs.Math.ListN.{set}
-use Rattle.std.proofs.lemmas.List.Elements.{All-nil, All-cons, All-head, All-tail, All-append, All-take, All-drop, All-set}
-use Rattle.std.proofs.lemmas.Option.{slice_get_within, get_or_from_slice_get}
-use Rattle.typst_kinds.specs.Span.{number_of}
-use Rattle.typst_kinds.specs.Head.{Head}
-use Rattle.typst_tree.specs.Tree.{Forest, none, more, Tree, forest, trees, places, preorder, count, nodes}
-use Rattle.typst_tree.specs.Numbers.{placed, stride, numbered, numbered_forest, numbered_list}
-use Rattle.typst_tree.specs.Order.{upper_at, IsOrdered, IsNumbered}
 use Rattle.typst_tree.specs.Same.{front}
-use Rattle.typst_tree.specs.Replace.{kids_of, with_kids, in_file, swapped, exchanged, middle, back, replaced, replaced_at, Reaches}
-use Rattle.typst_tree.specs.Laws.{Along}
-use Rattle.typst_tree.proofs.AlongPath.{along, exchange_some, exchange_none}
 use Rattle.typst_tree.proofs.KeepsOrder.{replaced_numbered}
 
 -- ---- numbered nodes name the file

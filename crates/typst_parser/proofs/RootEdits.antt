@@ -1,40 +1,10 @@
 -- What an edit answers is an edit of the root's children.
-use Rattle.std.proofs.Common.{◌≡◌, ℕ, suc, ◌+◌, ◌<◌, ◌≤◌, IsTrue, true, List, [], ◌∷◌, ◌++◌, length, take, drop, get_or, Some, refl, ap, sym, subst, ◌∙◌, arith, append_assoc, append-nil, length-append}
-use Rattle.std.specs.Prelude.{slice_range}
-use Rattle.std.specs.Str.{chars, IsCharBoundary, IsUtf8}
-use Rattle.std.specs.declared.ops.Range.{Range}
-use Rattle.std.proofs.Math.ListN.{set}
+use Rattle.typst_parser.proofs.Cited.{◌≡◌, ℕ, suc, ◌+◌, ◌<◌, ◌≤◌, IsTrue, true, List, [], ◌∷◌, ◌++◌, length, take, drop, get_or, Some, refl, ap, sym, subst, ◌∙◌, arith, append_assoc, append-nil, length-append, slice_range, chars, IsCharBoundary, IsUtf8, Range, set, slice_get_within, get_or_from_slice_get, CharClasses, Tree, bare, bare_forest, forest, joined, text_of, trees, kids_of, with_kids, replaced_at, Reaches, or_none, start_at, start_in, below, joined-append, replaced_bare, start_le, text_bare, text_over, text_split, forest_trees, width, log, tree, IsAnswer, part, whole, StandsIn, listed, candidate-places-law, in-order, tree-inner, among, width-append, Answers, TextReplacement, candidates, text_after, text_before, Headline, edited, Held, IsEdited, change_by, Replacement, chosen-of}
 use Rattle.std.proofs.lemmas.List.{set_split, set-get_or, take-append-drop}
 use Rattle.std.proofs.lemmas.List.Folds.{drop_split}
-use Rattle.std.proofs.lemmas.Option.{slice_get_within, get_or_from_slice_get}
 use Rattle.typst_kinds.specs.declared.kind.SyntaxKind.TheVariants as kind
-use Rattle.typst_lines.specs.Classes.{CharClasses}
-use Rattle.typst_tree.specs.Tree.{Tree, bare, bare_forest, forest, joined, text_of, trees}
-use Rattle.typst_tree.specs.Replace.{kids_of, with_kids, replaced_at, Reaches}
-use Rattle.typst_tree.specs.Laws.{or_none, start_at, start_in}
-use Rattle.typst_tree.proofs.AlongPath.{below}
-use Rattle.typst_tree.proofs.ReplacesChildren.{joined-append, replaced_bare, start_le, text_bare, text_over, text_split}
-use Rattle.typst_tree.proofs.SpansAside.{forest_trees}
 use Rattle.typst_highlight.specs.RootEdits.{IsRootEdit, bytes_of}
-use Rattle.typst_tokens.specs.Sight.{width}
-use Rattle.typst_edits.specs.Grammar.{log, tree}
-use Rattle.typst_edits.specs.Answer.{IsAnswer}
-use Rattle.typst_edits.specs.Answer.IsAnswer.{part, whole}
-use Rattle.typst_edits.specs.CandidatePlaces.{StandsIn}
-use Rattle.typst_edits.specs.PieceNotes.{listed}
-use Rattle.typst_edits.proofs.AnswerTree.{chosen-of}
-use Rattle.typst_edits.proofs.CandidatePlaces.{candidate-places-law}
-use Rattle.typst_edits.proofs.CandidateWorth.{in-order, tree-inner}
-use Rattle.typst_edits.proofs.Edit.{among}
 use Rattle.typst_edits.proofs.RunTrees.{tree-is}
-use Rattle.typst_edits.proofs.Widths.{width-append}
-use Rattle.typst_parser.specs.Answers.{Answers}
-use Rattle.typst_parser.specs.TextReplacement.{TextReplacement, candidates, text_after, text_before}
-use Rattle.typst_parser.specs.Headline.{Headline, edited}
-use Rattle.typst_parser.specs.Held.{Held}
-use Rattle.typst_parser.specs.Records.{IsEdited}
-use Rattle.typst_parser.specs.Tried.{change_by}
-use Rattle.typst_parser.specs.declared.replacement.Replacement.{Replacement}
 use Rattle.typst_parser.proofs.Changed.{after, before, long-now, width-chars}
 
 -- both roots are markup, without a text of their own

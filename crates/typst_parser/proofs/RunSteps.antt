@@ -1,39 +1,9 @@
 -- The steps of reading pieces of a run again.
-use Rattle.std.proofs.Common.{◌≡◌, ◌↔◌, ◌⊎◌, ℕ, ◌+◌, ◌-◌, ◌≤◌, ◌<◌, ◌^◌, Bool, true, List, length, Option, Some, None, ap, sym, subst, ◌∙◌, arith}
-use Rattle.std.specs.Prelude.{Result, IfOk}
-use Rattle.std.specs.Global.{Vec}
-use Rattle.std.specs.Str.{IsCharBoundary}
-use Rattle.typst_lines.specs.Classes.{CharClasses}
-use Rattle.typst_lines.specs.Place.{Place, moved, place_at}
-use Rattle.typst_tokens.specs.Sight.{width}
-use Rattle.typst_tree.specs.Tree.{Tree}
-use Rattle.typst_tree.specs.Replace.{replaced_at}
+use Rattle.typst_parser.proofs.Cited.{◌≡◌, ◌↔◌, ◌⊎◌, ℕ, ◌+◌, ◌-◌, ◌≤◌, ◌<◌, ◌^◌, Bool, true, List, length, Option, Some, None, ap, sym, subst, ◌∙◌, arith, Result, IfOk, IsCharBoundary, CharClasses, Place, moved, place_at, width, Tree, replaced_at, Log, Units, end_of, entries_by, spliced, units_of, AllFit, RunKind, log, ArePieces, HasRead, SaysBlock, entries_in, front_in, rear_in, text_with, Gives, listed, Ends, FoundInner, FoundRun, IsLast, LooksFrom, Reading, SaysPiece, nodes_by, notes_by, reading_on, MeetsOn, reading_of, Decides, Fails, IsPart, Speaks, at_path, TextReplacement, text_before, AreBounds, Begins, BeginsThere, HasBlock, HasReadSome, HasReadTo, IsPassing, IsRunOf, Reads, ServesNow, ServesRun, place_before, Asked, Bounds, ReparsedPart, Run, Serving, Vec, Attempt, Passing}
 use Rattle.typst_edits.specs.Block.TheVariants as block
-use Rattle.typst_edits.specs.Log.{Log}
 use Rattle.typst_candidates.specs.declared.candidate.Candidate as code
 use Rattle.typst_candidates.specs.Cursors as cursors
-use Rattle.typst_candidates.specs.Entries.{Units, end_of, entries_by, spliced, units_of}
-use Rattle.typst_candidates.specs.Records.{AllFit}
-use Rattle.typst_edits.specs.RunKind.{RunKind}
 use Rattle.typst_edits.specs.RunKind.TheVariants as of
-use Rattle.typst_edits.specs.Grammar.{log}
-use Rattle.typst_edits.specs.Part.{ArePieces, HasRead}
-use Rattle.typst_edits.specs.BlockTest.{SaysBlock, entries_in, front_in, rear_in}
-use Rattle.typst_edits.specs.Edit.{text_with}
-use Rattle.typst_edits.specs.Frame.{Gives}
-use Rattle.typst_edits.specs.PieceNotes.{listed}
-use Rattle.typst_edits.specs.RunTest.{Ends, FoundInner, FoundRun, IsLast, LooksFrom, Reading, SaysPiece, nodes_by, notes_by, reading_on}
-use Rattle.typst_edits.specs.Served.{MeetsOn, reading_of}
-use Rattle.typst_parser.specs.Attempt.{Decides, Fails, IsPart, Speaks, at_path}
-use Rattle.typst_parser.specs.TextReplacement.{TextReplacement, text_before}
-use Rattle.typst_parser.specs.Steps.{AreBounds, Begins, BeginsThere, HasBlock, HasReadSome, HasReadTo, IsPassing, IsRunOf, Reads, ServesNow, ServesRun, place_before}
-use Rattle.typst_parser.specs.declared.attempt.Asked.{Asked}
-use Rattle.typst_parser.specs.declared.attempt.Attempt.{Attempt}
-use Rattle.typst_parser.specs.declared.attempt.Bounds.{Bounds}
-use Rattle.typst_parser.specs.declared.attempt.ReparsedPart.{ReparsedPart}
-use Rattle.typst_parser.specs.declared.attempt.Passing.{Passing}
-use Rattle.typst_parser.specs.declared.attempt.Run.{Run}
-use Rattle.typst_parser.specs.declared.attempt.Serving.{Serving}
 use Rattle.typst_parser.proofs.Answering.{entries-are, places-fit}
 use Rattle.typst_parser.proofs.BlockSteps.{now-boundary, now-few, now-place}
 use Rattle.typst_parser.proofs.Inner.{inner-first, inner-here, inner-says, with-block-part}

@@ -1,28 +1,8 @@
 -- Pieces of a run: from what is found of a candidate to whether it passes.
-use Rattle.std.proofs.Common.{◌≡◌, ◌↔◌, ◌⊎◌, inl, inr, ℕ, suc, ◌+◌, ◌-◌, ◌≤◌, ◌<◌, ◌^◌, Bool, true, List, length, take, drop, take-append-drop, Option, Some, None, refl, ap, sym, subst, ◌∙◌, arith}
-use Rattle.std.proofs.lemmas.Option.{same_Some}
-use Rattle.typst_lines.specs.Classes.{CharClasses}
-use Rattle.typst_lines.specs.Place.{Place, moved}
-use Rattle.typst_tokens.specs.Sight.{width}
-use Rattle.typst_candidates.specs.declared.entry.Entry.{Entry}
-use Rattle.typst_candidates.specs.Candidates.{Candidate}
+use Rattle.typst_parser.proofs.Cited.{◌≡◌, ◌↔◌, ◌⊎◌, inl, inr, ℕ, suc, ◌+◌, ◌-◌, ◌≤◌, ◌<◌, ◌^◌, Bool, true, List, length, take, drop, take-append-drop, Option, Some, None, refl, ap, sym, subst, ◌∙◌, arith, same_Some, CharClasses, Place, moved, width, Entry, Candidate, closing_of, piece_of, end_of, RunKind, entries_in, front_in, rear_in, text_with, BeginsAt, Ends, FoundRun, IsLast, LooksFrom, SaysPiece, byte_after, reading_on, MeetsOn, width-append, Fails, TextReplacement, Makes, text_after, text_before, AreBounds, Grows, place_before, Bounds, Replacement, end_on, run_level, stops_of}
 use Rattle.typst_candidates.specs.Cursors as cursors
-use Rattle.typst_candidates.specs.Cursors.{closing_of, piece_of}
-use Rattle.typst_candidates.specs.Entries.{end_of}
-use Rattle.typst_edits.specs.RunKind.{RunKind}
 use Rattle.typst_edits.specs.RunKind.TheVariants as of
-use Rattle.typst_edits.specs.Pieces.{end_on, run_level, stops_of}
 use Rattle.typst_edits.specs.Point.{gap_of}
-use Rattle.typst_edits.specs.BlockTest.{entries_in, front_in, rear_in}
-use Rattle.typst_edits.specs.Edit.{text_with}
-use Rattle.typst_edits.specs.RunTest.{BeginsAt, Ends, FoundRun, IsLast, LooksFrom, SaysPiece, byte_after, reading_on}
-use Rattle.typst_edits.specs.Served.{MeetsOn}
-use Rattle.typst_edits.proofs.Widths.{width-append}
-use Rattle.typst_parser.specs.Attempt.{Fails}
-use Rattle.typst_parser.specs.TextReplacement.{TextReplacement, Makes, text_after, text_before}
-use Rattle.typst_parser.specs.Steps.{AreBounds, Grows, place_before}
-use Rattle.typst_parser.specs.declared.attempt.Bounds.{Bounds}
-use Rattle.typst_parser.specs.declared.replacement.Replacement.{Replacement}
 use Rattle.typst_edits.proofs.RunOver.{over-law}
 use Rattle.typst_parser.proofs.Numbers.{After, begins-after, rear-within}
 use Rattle.typst_parser.proofs.Places.{position-within, sides-of}

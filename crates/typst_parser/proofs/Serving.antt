@@ -1,27 +1,7 @@
 -- One reading of the new text, from one candidate of a run to the next.
-use Rattle.std.proofs.Common.{◌≡◌, ◌↔◌, ◌⊎◌, ℕ, ◌+◌, ◌-◌, ◌≤◌, ◌<◌, ◌^◌, Bool, true, false, List, take, Option, Some, None, refl, ap, sym, subst, ◌∙◌, arith}
-use Rattle.std.specs.Prelude.{IfSome}
-use Rattle.typst_lines.specs.Classes.{CharClasses}
-use Rattle.typst_lines.specs.Place.{moved}
-use Rattle.typst_tokens.specs.Sight.{width}
-use Rattle.typst_tree.specs.Tree.{Tree, bare}
+use Rattle.typst_parser.proofs.Cited.{◌≡◌, ◌↔◌, ◌⊎◌, ℕ, ◌+◌, ◌-◌, ◌≤◌, ◌<◌, ◌^◌, Bool, true, false, List, take, Option, Some, None, refl, ap, sym, subst, ◌∙◌, arith, IfSome, CharClasses, moved, width, Tree, bare, Entry, RunKind, tree, ArePieces, entries_in, rear_in, Among, text_with, FoundRun, MeetsOn, PassesOn, RunOf, Served, reading_of, Fails, at_path, TextReplacement, candidates, text_after, text_before, Begins, BeginsThere, Fit, GoesOn, Grows, HasReadSome, HasReadTo, IsPassing, Serves, ServesFor, ServesNow, ServesOr, ServesRun, place_before, Bounds, Run, Serving, Passing}
 use Rattle.typst_candidates.specs.declared.candidate.Candidate as code
-use Rattle.typst_candidates.specs.declared.entry.Entry.{Entry}
 use Rattle.typst_candidates.specs.Cursors as cursors
-use Rattle.typst_edits.specs.RunKind.{RunKind}
-use Rattle.typst_edits.specs.Grammar.{tree}
-use Rattle.typst_edits.specs.Part.{ArePieces}
-use Rattle.typst_edits.specs.BlockTest.{entries_in, rear_in}
-use Rattle.typst_edits.specs.Edit.{Among, text_with}
-use Rattle.typst_edits.specs.RunTest.{FoundRun}
-use Rattle.typst_edits.specs.Served.{MeetsOn, PassesOn, RunOf, Served, reading_of}
-use Rattle.typst_parser.specs.Attempt.{Fails, at_path}
-use Rattle.typst_parser.specs.TextReplacement.{TextReplacement, candidates, text_after, text_before}
-use Rattle.typst_parser.specs.Steps.{Begins, BeginsThere, Fit, GoesOn, Grows, HasReadSome, HasReadTo, IsPassing, Serves, ServesFor, ServesNow, ServesOr, ServesRun, place_before}
-use Rattle.typst_parser.specs.declared.attempt.Bounds.{Bounds}
-use Rattle.typst_parser.specs.declared.attempt.Passing.{Passing}
-use Rattle.typst_parser.specs.declared.attempt.Run.{Run}
-use Rattle.typst_parser.specs.declared.attempt.Serving.{Serving}
 use Rattle.typst_parser.proofs.Laws.{served-law}
 use Rattle.typst_parser.proofs.PieceReading.{fitting, unfit}
 use Rattle.typst_parser.proofs.Runs.{grows-there}

@@ -1,28 +1,9 @@
 -- What is asked of the candidates of an edit, one after the other.
-use Rattle.std.proofs.Common.{◌≡◌, ℕ, zero, suc, ◌<◌, List, [], ◌∷◌, length, min, take, map, Option, Some, option_map, ap, sym, subst, ◌∙◌, arith}
-use Rattle.std.proofs.lemmas.Option.{same_Some, slice_get-map}
-use Rattle.std.proofs.lemmas.List.{length-map, length-take, take_all, take_min}
-use Rattle.std.specs.List.{slice_get}
-use Rattle.std.specs.Prelude.{IfSome}
-use Rattle.std.specs.Str.{IsUtf8}
-use Rattle.typst_lines.specs.Classes.{CharClasses}
-use Rattle.typst_tree.specs.Tree.{Tree}
-use Rattle.typst_edits.specs.Note.{Note}
+use Rattle.typst_parser.proofs.Cited.{◌≡◌, ℕ, zero, suc, ◌<◌, List, [], ◌∷◌, length, min, take, map, Option, Some, option_map, ap, sym, subst, ◌∙◌, arith, same_Some, slice_get-map, length-map, length-take, take_all, take_min, slice_get, IfSome, IsUtf8, CharClasses, Tree, Candidate, Units, front_of, rear_of, spelled, StandsIn, Among, Speaks, at_path, TextReplacement, Holds, Makes, candidates, CanTake, TakesPlace, GoesOn, ServesFor, ServesOr, Asked, Serving, Note, Written}
 use Rattle.typst_candidates.specs.declared.candidate.Candidate as code
 use Rattle.typst_candidates.specs.Candidates as candidate
-use Rattle.typst_candidates.specs.Candidates.{Candidate}
-use Rattle.typst_candidates.specs.Entries.{Units, front_of, rear_of}
-use Rattle.typst_candidates.specs.Nested.{Written}
-use Rattle.typst_candidates.specs.Edges.{spelled}
-use Rattle.typst_edits.specs.Edit.{Among}
 use Rattle.typst_edits.specs.Edit.Among.{this, that}
-use Rattle.typst_parser.specs.Attempt.{Speaks, at_path}
-use Rattle.typst_parser.specs.TextReplacement.{TextReplacement, Holds, Makes, candidates}
-use Rattle.typst_parser.specs.Reparse.{CanTake, TakesPlace}
-use Rattle.typst_parser.specs.Steps.{GoesOn, ServesFor, ServesOr}
-use Rattle.typst_parser.specs.declared.attempt.Asked.{Asked}
-use Rattle.typst_parser.specs.declared.attempt.Serving.{Serving}
-use Rattle.typst_parser.proofs.Answering.{candidates-are, entries-are}
+use Rattle.typst_parser.proofs.Answering.{candidate-stands, candidates-are, entries-are}
 use Rattle.typst_parser.proofs.Numbers.{entries-written}
 use Rattle.typst_parser.proofs.Serving.{ServesAt, at-for}
 
@@ -62,40 +43,38 @@ module _ (path : List ℕ) (items : List code.Candidate) (most : ℕ) (cs : List
 
 -- ---- one of them
 
-module _ {C : Type 0} (k : CharClasses) (c : TextReplacement) (root : Tree) (units : Units) (q : Asked C) (speaks : Speaks k c q root units) where
-  module _ (path : List ℕ) (items : List code.Candidate) (first : map (spelled path) items ≡ take (length items) (candidates k c root)) where
-    pub found-at : (i : ℕ) (d : code.Candidate) → slice_get items i ≡ Some d → slice_get (candidates k c root) i ≡ Some (spelled path d)
-    found-at i d h = within-first (length items) (candidates k c root) i (spelled path d) (ap (λ xs. slice_get xs i) (sym first) ∙ slice_get-map (spelled path) items i ∙ ap (option_map (spelled path)) h)
+module _ {C : Type 0} {k : CharClasses} {c : TextReplacement} {root : Tree} {units : Units} {q : Asked C} (speaks : Speaks k c q root units)
+    (path : List ℕ) (items : List code.Candidate) (first : map (spelled path) items ≡ take (length items) (candidates k c root)) (i : ℕ) {d : code.Candidate} (at : slice_get items i ≡ Some d) {way : List ℕ} (way_is : way ≡ take d.depth path) where
+  pub here-at : slice_get (candidates k c root) i ≡ Some (at_path way d)
+  here-at =
+      within-first (length items) (candidates k c root) i (spelled path d) (ap (λ xs. slice_get xs i) (sym first) ∙ slice_get-map (spelled path) items i ∙ ap (option_map (spelled path)) at)
+      ∙ ap (λ p. Some (at_path p d)) (sym way_is)
 
-    pub found-among : (i : ℕ) (d : code.Candidate) → slice_get items i ≡ Some d → Among (spelled path d) (candidates k c root)
-    found-among i d h = among-at (candidates k c root) i (spelled path d) (found-at i d h)
+  here-among : Among (at_path way d) (candidates k c root)
+  here-among = among-at (candidates k c root) i (at_path way d) here-at
 
-    module _ (i : ℕ) (d : code.Candidate) (at : slice_get items i ≡ Some d)
-        (way : List ℕ) (way_is : way ≡ take d.depth path) (was s : Option Serving) (so_far : ServesAt k c root path was) (goes : IfSome s (λ x. (was ≡ Some x) × GoesOn d x)) (r : Tree) (r_is : r ≡ root) (u : Units) (u_is : u ≡ units) where
-      here-among : Among (at_path way d) (candidates k c root)
-      here-among = subst (λ p. Among (at_path p d) (candidates k c root)) (sym way_is) (found-among i d at)
+  pub here-stands : StandsIn root (at_path way d)
+  here-stands = candidate-stands k c root units speaks.holds (at_path way d) here-among
 
-      here-serves : ServesFor k c root way d s
-      here-serves = subst (λ p. ServesFor k c root p d s) (sym way_is) (at-for k c root path d was s so_far goes)
+  module _ (was s : Option Serving) (so_far : ServesAt k c root path was) (goes : IfSome s (λ x. (was ≡ Some x) × GoesOn d x)) {r : Tree} (r_is : r ≡ root) {u : Units} (u_is : u ≡ units) where
+    here-serves : ServesFor k c root way d s
+    here-serves = subst (λ p. ServesFor k c root p d s) (sym way_is) (at-for k c root path d was s so_far goes)
 
-      here-speaks : Speaks k c q r u
-      here-speaks = subst (λ x. Speaks k c q x u) (sym r_is) (subst (λ v. Speaks k c q root v) (sym u_is) speaks)
+    here-speaks : Speaks k c q r u
+    here-speaks = subst (λ x. Speaks k c q x u) (sym r_is) (subst (λ v. Speaks k c q root v) (sym u_is) speaks)
 
-      there-among : Among (at_path way d) (candidates k c r)
-      there-among = subst (λ x. Among (at_path way d) (candidates k c x)) (sym r_is) here-among
+    there-among : Among (at_path way d) (candidates k c r)
+    there-among = subst (λ x. Among (at_path way d) (candidates k c x)) (sym r_is) here-among
 
-      there-serves : ServesFor k c r way d s
-      there-serves = subst (λ x. ServesFor k c x way d s) (sym r_is) here-serves
+    there-serves : ServesFor k c r way d s
+    there-serves = subst (λ x. ServesFor k c x way d s) (sym r_is) here-serves
 
-      -- the next candidate can be taken
-      pub can-take : CanTake k q r u way d s
-      can-take = record { change = c; speaks = here-speaks; among = there-among; serves = there-serves }
+    -- the next candidate can be taken
+    pub can-take : CanTake k q r u way d s
+    can-take = record { change = c; speaks = here-speaks; among = there-among; serves = there-serves }
 
-      -- what comes of it
-      pub took : (now : Tree) (units_now : Units) (end : Option ℕ) (t : Option Serving)
-          → ((c : TextReplacement) → Speaks k c q r u → Among (at_path way d) (candidates k c r) → ServesFor k c r way d s → TakesPlace k c (at_path way d) r now units_now end × ServesOr k c r way d.depth t)
-          → TakesPlace k c (at_path way d) root now units_now end × ServesOr k c root way d.depth t
-      took now units_now end t taken = subst (λ x. TakesPlace k c (at_path way d) x now units_now end × ServesOr k c x way d.depth t) r_is (taken c here-speaks there-among there-serves)
-
-      pub here-at : slice_get (candidates k c root) i ≡ Some (at_path way d)
-      here-at = found-at i d at ∙ ap (λ p. Some (at_path p d)) (sym way_is)
+    -- what comes of it
+    pub took : (now : Tree) (units_now : Units) (end : Option ℕ) (t : Option Serving)
+        → ((c : TextReplacement) → Speaks k c q r u → Among (at_path way d) (candidates k c r) → ServesFor k c r way d s → TakesPlace k c (at_path way d) r now units_now end × ServesOr k c r way d.depth t)
+        → TakesPlace k c (at_path way d) root now units_now end × ServesOr k c root way d.depth t
+    took now units_now end t taken = subst (λ x. TakesPlace k c (at_path way d) x now units_now end × ServesOr k c x way d.depth t) r_is (taken c here-speaks there-among there-serves)

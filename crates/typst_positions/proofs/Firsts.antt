@@ -1,7 +1,5 @@
 -- The first byte of a stretch that ends a line.
-use Rattle.std.proofs.Common.{◌≡◌, ℕ, ◌+◌, ◌-◌, ◌<◌, ◌≤◌, List, length, take, drop, get_or, None, Some, sym, ap, ◌∙◌, arith, length-drop, length-take-le, get_or-take, get_or-drop}
-use Rattle.memchr.specs.Find.{IsFirst, IsFirstByte, Nowhere, Passes, is_byte2}
-use Rattle.typst_positions.specs.Starts.{is_line_end}
+use Rattle.typst_positions.proofs.Cited.{◌≡◌, ℕ, ◌+◌, ◌-◌, ◌<◌, ◌≤◌, List, length, take, drop, get_or, None, Some, sym, ap, ◌∙◌, arith, length-drop, length-take-le, get_or-take, get_or-drop, is_line_end, IsFirst, IsFirstByte, Nowhere, Passes, is_byte2}
 
 module _ (text : List ℕ) (from to : ℕ) (ordered : from ≤ to) (within : to ≤ length text) where
   abbrev part : List ℕ

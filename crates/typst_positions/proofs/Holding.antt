@@ -1,9 +1,7 @@
 -- The line that holds a byte.
-use Rattle.std.proofs.Common.{◌≡◌, ℕ, zero, suc, ◌+◌, ◌-◌, ◌<◌, ◌≤◌, Bool, true, false, cond, List, [], ◌∷◌, ◌++◌, length, get_or, count_by, refl, sym, ap, ◌∙◌, arith, add-one, append-nil, ◌⊎◌, inl, inr}
-use Rattle.std.proofs.lemmas.Bool.{cases_order}
+use Rattle.typst_positions.proofs.Cited.{◌≡◌, ℕ, zero, suc, ◌+◌, ◌-◌, ◌<◌, ◌≤◌, Bool, true, false, cond, List, [], ◌∷◌, ◌++◌, length, get_or, count_by, refl, sym, ap, ◌∙◌, arith, add-one, append-nil, ◌⊎◌, line_starts, starts_between, starts_line}
 use Rattle.std.proofs.lemmas.List.Recursion.{is_count_by}
 use Rattle.std.specs.List.Sorted.{IsNonDecreasingBy, IsPartitionPoint}
-use Rattle.typst_positions.specs.Starts.{line_starts, starts_between, starts_line}
 use Rattle.typst_positions.proofs.Tables.{between-one, between-split, picked}
 
 -- ---- the last byte up to one where a line starts
@@ -13,29 +11,17 @@ last_start text zero = 0
 last_start text (suc b) = cond (starts_line text (suc b)) (suc b) (last_start text b)
 
 cond-le : (t : Bool) (a b : ℕ) → a ≤ b → cond t (suc b) a ≤ suc b
-cond-le true a b h = omega arith
-cond-le false a b h = omega arith
+cond-le t a b h = grind arith
 
 pub last-le : (text : List ℕ) (b : ℕ) → last_start text b ≤ b
 last-le text zero = omega arith
 last-le text (suc b) = cond-le (starts_line text (suc b)) (last_start text b) b (last-le text b)
 
-cond-starts : (text : List ℕ) (t : Bool) (a b : ℕ) → starts_line text b ≡ t → starts_line text a ≡ true → starts_line text (cond t b a) ≡ true
-cond-starts text true a b e h = e
-cond-starts text false a b e h = h
-
-pub last-starts : (text : List ℕ) (b : ℕ) → starts_line text (last_start text b) ≡ true
-last-starts text zero = refl
-last-starts text (suc b) = cond-starts text (starts_line text (suc b)) (last_start text b) (suc b) refl (last-starts text b)
-
 later : (text : List ℕ) (a b k : ℕ) → (k ≡ suc b) ⊎ ((k < suc b) ⊎ (suc b < k)) → starts_line text (suc b) ≡ false → ((j : ℕ) → a < j → j ≤ b → starts_line text j ≡ false) → a < k → k ≤ suc b → starts_line text k ≡ false
-later text a b k (inl here) e h lo hi = ap (starts_line text) here ∙ e
-later text a b k (inr (inl less)) e h lo hi = h k lo (omega arith)
-later text a b k (inr (inr more)) e h lo hi = absurd (omega arith)
+later text a b k h e g lo hi = grind arith
 
 cond-after : (text : List ℕ) (t : Bool) (a b k : ℕ) → starts_line text (suc b) ≡ t → ((j : ℕ) → a < j → j ≤ b → starts_line text j ≡ false) → cond t (suc b) a < k → k ≤ suc b → starts_line text k ≡ false
-cond-after text true a b k e h lo hi = absurd (omega arith)
-cond-after text false a b k e h lo hi = later text a b k (cases_order k (suc b)) e h lo hi
+cond-after text t a b k e h lo hi = grind arith
 
 pub last-after : (text : List ℕ) (b k : ℕ) → last_start text b < k → k ≤ b → starts_line text k ≡ false
 last-after text zero k lo hi = absurd (omega arith)
@@ -47,8 +33,7 @@ pub record EndsWith (xs : List ℕ) (x : ℕ) : Type 0 where
   pub parts : xs ≡ before ++ x ∷ []
 
 ends-more : (xs ys : List ℕ) (t : Bool) (a b : ℕ) → EndsWith xs a → ys ≡ xs ++ cond t (b ∷ []) [] → EndsWith ys (cond t b a)
-ends-more xs ys true a b h e = record { before = xs; parts = e }
-ends-more xs ys false a b h e = record { before = h.before; parts = e ∙ append-nil xs ∙ h.parts }
+ends-more xs ys t a b h e = grind (arith, append-nil)
 
 pub ends-last : (text : List ℕ) (b : ℕ) → EndsWith (starts_between text 0 b) (last_start text b)
 ends-last text zero = record { before = []; parts = between-one text 0 }
@@ -74,16 +59,14 @@ passing-point p (x ∷ xs) zero le h =
     rw here (passing-point p xs zero (omega arith) (λ k d lo hi. absurd (omega arith), λ k d lo hi. h.1 (suc k) d (omega arith) (omega arith)))
 passing-point p (x ∷ xs) (suc i) le h =
     let here : p x ≡ true = h.0 0 x (omega arith) (omega arith) in
-    let rest = passing-point p xs i (omega arith) (λ k d lo hi. h.0 (suc k) d (omega arith) (omega arith), λ k d lo hi. h.1 (suc k) d (omega arith) (omega arith)) in
-    rw here (omega arith)
+    grind (arith, passing-point p xs i (omega arith) (λ k d lo hi. h.0 (suc k) d (omega arith) (omega arith), λ k d lo hi. h.1 (suc k) d (omega arith) (omega arith)))
 
 -- where those that pass come first, there are as many as the place where they end
 pub count-point : (p : ℕ → Bool) (xs : List ℕ) (i : ℕ) → i ≤ length xs → IsPartitionPoint (λ y. p y ≡ true) (λ y. p y ≡ false) xs i → count_by p xs ≡ i
 count-point p xs i le h = sym (passing-is p xs) ∙ passing-point p xs i le h
 
 cond-passing : (q : ℕ → Bool) (t : Bool) (x : ℕ) (xs : List ℕ) (n : ℕ) → passing q xs ≡ n → (t ≡ true → q x ≡ false) → n ≡ 0 → passing q (cond t (x ∷ xs) xs) ≡ 0
-cond-passing q true x xs n e h z = rw (h refl) (omega arith)
-cond-passing q false x xs n e h z = omega arith
+cond-passing q t x xs n e h z = grind arith
 
 picked-none-pass : (p q : ℕ → Bool) (n a : ℕ) → ((k : ℕ) → a ≤ k → k < a + n → q k ≡ false) → passing q (picked p a n) ≡ 0
 picked-none-pass p q zero a h = refl
@@ -91,8 +74,7 @@ picked-none-pass p q (suc n) a h =
     cond-passing q (p a) a (picked p (a + 1) n) 0 (picked-none-pass p q n (a + 1) (λ k lo hi. h k (omega arith) (omega arith))) (λ _. h a (omega arith) (omega arith)) refl
 
 cond-all : (q : ℕ → Bool) (t : Bool) (x : ℕ) (xs : List ℕ) → passing q xs ≡ length xs → q x ≡ true → passing q (cond t (x ∷ xs) xs) ≡ length (cond t (x ∷ xs) xs)
-cond-all q true x xs e h = rw h (omega arith)
-cond-all q false x xs e h = e
+cond-all q t x xs e h = grind arith
 
 picked-all-pass : (p q : ℕ → Bool) (n a : ℕ) → ((k : ℕ) → a ≤ k → k < a + n → q k ≡ true) → passing q (picked p a n) ≡ length (picked p a n)
 picked-all-pass p q zero a h = refl
@@ -100,8 +82,7 @@ picked-all-pass p q (suc n) a h =
     cond-all q (p a) a (picked p (a + 1) n) (picked-all-pass p q n (a + 1) (λ k lo hi. h k (omega arith) (omega arith))) (h a (omega arith) (omega arith))
 
 cond-plus : (t : Bool) (a b c : ℕ) → a ≡ b + c → cond t (1 + a) a ≡ cond t (1 + b) b + c
-cond-plus true a b c e = omega arith
-cond-plus false a b c e = e
+cond-plus t a b c e = grind arith
 
 passing-append : (p : ℕ → Bool) (xs ys : List ℕ) → passing p (xs ++ ys) ≡ passing p xs + passing p ys
 passing-append p [] ys = omega arith
@@ -129,8 +110,7 @@ rising-lower low high [] le r = tt
 rising-lower low high (x ∷ xs) le r = (omega (arith, le, r.0), r.1)
 
 cond-rising : (t : Bool) (x : ℕ) (xs : List ℕ) → rising (x + 1) xs → rising x (cond t (x ∷ xs) xs)
-cond-rising true x xs r = (omega arith, rising-lower x (x + 1) xs (omega arith) r)
-cond-rising false x xs r = rising-lower x (x + 1) xs (omega arith) r
+cond-rising t x xs r = grind (arith, rising-lower)
 
 picked-rising : (p : ℕ → Bool) (n a : ℕ) → rising a (picked p a n)
 picked-rising p zero a = tt

@@ -5,6 +5,7 @@
 --   columns, and their way back              Widths: before-plain, column-plain, column-back, before-boundary
 --   a line of a text, and bytes in it        Places: line-is, start-boundary, place-back
 --   the starts of an edited text             Shifts: replaced-is, put-moved, count-mono
+pub mod Cited
 pub mod Firsts
 pub mod Holding
 pub mod Places

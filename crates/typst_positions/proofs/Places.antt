@@ -1,16 +1,6 @@
 -- Lines as stretches of their text, and bytes in them.
-use Rattle.std.proofs.Common.{◌≡◌, ℕ, zero, suc, ◌+◌, ◌-◌, ◌<◌, ◌≤◌, inl, inr, min, Bool, true, false, ◌==◌, ◌&&◌, ◌||◌, not, nat_le, cond, List, [], ◌∷◌, ◌++◌, length, take, drop, get_or, slice_get, Some, count_by, append_assoc, refl, sym, ap, subst, ◌∙◌, arith, add-one, length-drop, length-take-le, get_or-take, get_or-drop}
-use Rattle.std.proofs.lemmas.Bool.{and_cases, and_parts, both_ways, cases_lt, cases_order, eq-eqb, eqb-true, le-leb, lt-leb, not-false, not-true, or_cases, or_left, or_parts}
-use Rattle.std.proofs.lemmas.List.{length_push}
-use Rattle.std.proofs.lemmas.Str.{IsCharBoundary-after_ascii, IsCharBoundary-start, IsUtf8-between}
-use Rattle.std.specs.List.{prefix_len}
+use Rattle.typst_positions.proofs.Cited.{◌≡◌, ℕ, zero, suc, ◌+◌, ◌-◌, ◌<◌, ◌≤◌, inl, inr, min, Bool, true, false, ◌==◌, ◌&&◌, ◌||◌, not, nat_le, cond, List, [], ◌∷◌, ◌++◌, length, take, drop, get_or, slice_get, Some, count_by, append_assoc, refl, sym, ap, subst, ◌∙◌, arith, add-one, length-drop, length-take-le, get_or-take, get_or-drop, and_parts, both_ways, cases_lt, cases_order, eq-eqb, eqb-true, le-leb, lt-leb, not-false, not-true, or_cases, or_left, length_push, IsCharBoundary, IsUtf8, column_of, IsInsideEnd, byte_at, line_of, position_of, is_line_end, line_at, line_starts, starts_between, starts_line, IsCharBoundary-after_ascii, IsCharBoundary-start, IsUtf8-between, prefix_len, Encoding, Position}
 use Rattle.std.specs.Prelude.{slice_index}
-use Rattle.std.specs.Str.{IsCharBoundary, IsUtf8}
-use Rattle.typst_positions.specs.Columns.{bytes_before, column_of}
-use Rattle.typst_positions.specs.Positions.{IsInsideEnd, byte_at, byte_in, line_of, position_of}
-use Rattle.typst_positions.specs.Starts.{is_line_end, line_at, line_starts, starts_between, starts_line}
-use Rattle.typst_positions.specs.declared.columns.Encoding.{Encoding}
-use Rattle.typst_positions.specs.declared.positions.Position.{Position}
 use Rattle.typst_positions.proofs.Holding.{count-between, ends-last, last-after, last-le, last_start}
 use Rattle.typst_positions.proofs.Tables.{between-split, picked}
 use Rattle.typst_positions.proofs.Widths.{column-back}
@@ -32,19 +22,8 @@ pub record IsPrefix (p : ℕ → Bool) (xs : List ℕ) (n : ℕ) : Type 0 where
 one-add : (n : ℕ) → 1 + n ≡ suc n
 one-add n = omega arith
 
-passes_cons : (p : ℕ → Bool) (x : ℕ) (xs : List ℕ) (n k : ℕ) → p x ≡ true → ((j : ℕ) → j < n → p (get_or xs j 0) ≡ true) → k < 1 + n → p (get_or (x ∷ xs) k 0) ≡ true
-passes_cons p x xs n zero e h lt = e
-passes_cons p x xs n (suc k) e h lt = h k (omega arith)
-
 prefix-cons : (p : ℕ → Bool) (t : Bool) (x : ℕ) (xs : List ℕ) (n : ℕ) → p x ≡ t → IsPrefix p xs n → IsPrefix p (x ∷ xs) (cond t (1 + n) 0)
-prefix-cons p true x xs n e h =
-    let within = h.within in
-    record {
-      within = omega arith;
-      passes = λ k lt. passes_cons p x xs n k e h.passes lt;
-      stops = λ lt. ap (λ i. p (get_or (x ∷ xs) i 0)) (one-add n) ∙ h.stops (omega arith);
-    }
-prefix-cons p false x xs n e h = record { within = omega arith; passes = λ k lt. absurd (omega arith); stops = λ _. e }
+prefix-cons p t x xs n e h = grind arith
 
 prefix-of : (p : ℕ → Bool) (xs : List ℕ) → IsPrefix p xs (prefix_len p xs)
 prefix-of p [] = record { within = omega arith; passes = λ k lt. absurd (omega arith); stops = λ lt. absurd (omega arith) }
@@ -88,27 +67,13 @@ line-is text start n h plain ended =
     (λ k lt. ap inside (get_or-drop start text k 0) ∙ ap not (plain (start + k) (omega arith) (omega arith)))
     (λ lt. ap inside (get_or-drop start text n 0) ∙ ap not (ended (omega arith)))))
 
-end-ascii : (c : ℕ) → is_line_end c ≡ true → c < 128
-end-ascii c e = elim (or_cases (c == 10) (c == 13) e) [ inl feed ↦ omega (arith, eqb-true c 10 feed) | inr return ↦ omega (arith, eqb-true c 13 return) ]
-
 -- where a line ends a character does
 pub line-end : (text : List ℕ) (start n : ℕ) → start + n ≤ length text → (start + n < length text → is_line_end (get_or text (start + n) 0) ≡ true) → IsCharBoundary text (start + n)
-line-end text start n h ended =
-    (h, λ lt big. let small = end-ascii (get_or text (start + n) 0) (ended lt) in absurd (omega arith))
+line-end text start n h ended = grind arith
 
 -- a boundary in a line is one in the text
 in-line : (text : List ℕ) (start n j : ℕ) → HasLine text start n → IsCharBoundary (line_at text start) j → IsCharBoundary text (start + j)
-in-line text start n j line b =
-    let within = line.within in
-    let long : length (take n (drop start text)) ≡ n = length-take-le n (drop start text) (omega (arith, length-drop start text)) in
-    let c : IsCharBoundary (take n (drop start text)) j = subst (λ xs. IsCharBoundary xs j) line.is b in
-    let le : j ≤ n = omega (arith, c.0) in
-    elim (cases_lt j n) [
-      | inl lt ↦
-          let same : get_or (take n (drop start text)) j 0 ≡ get_or text (start + j) 0 = get_or-take n (drop start text) j 0 lt ∙ get_or-drop start text j 0 in
-          (omega arith, λ short big. subst (λ v. 192 ≤ v) same (c.1 (omega arith) (subst (λ v. 128 ≤ v) (sym same) big)))
-      | inr ge ↦ let here : n ≡ j = omega arith in subst (λ i. IsCharBoundary text (start + i)) here (line-end text start n within line.ended)
-    ]
+in-line text start n j line b = grind (arith, length-take-le, length-drop, cases_lt, get_or-take, get_or-drop, line-end)
 
 pub boundary-in : (text : List ℕ) (start j : ℕ) → start ≤ length text → IsCharBoundary (line_at text start) j → IsCharBoundary text (start + j)
 boundary-in text start j h b = in-line text start _ j (has-line text start h) b
@@ -129,9 +94,7 @@ record Found (p : ℕ → Bool) (a n s : ℕ) : Type 0 where
   high : s < a + n
 
 cond-found : (p : ℕ → Bool) (t : Bool) (a n i s : ℕ) (xs : List ℕ) → p a ≡ t → ((j : ℕ) → slice_get xs j ≡ Some s → Found p (a + 1) n s) → slice_get (cond t (a ∷ xs) xs) i ≡ Some s → Found p a (suc n) s
-cond-found p true a n zero s xs e h g = let same : a ≡ s = cc in record { passes = ap p (sym same) ∙ e; low = omega arith; high = omega arith }
-cond-found p true a n (suc i) s xs e h g = let f = h i g in let lo = f.low in let hi = f.high in record { passes = f.passes; low = omega arith; high = omega arith }
-cond-found p false a n i s xs e h g = let f = h i g in let lo = f.low in let hi = f.high in record { passes = f.passes; low = omega arith; high = omega arith }
+cond-found p t a n i s xs e h g = grind arith
 
 found : (p : ℕ → Bool) (n a i s : ℕ) → slice_get (picked p a n) i ≡ Some s → Found p a n s
 found p zero a i s g = absurd (cc)
@@ -171,12 +134,7 @@ held_at text byte b e =
     let number : line_of text byte ≡ length ends.before = omega (arith, count, ap length ends.parts, length_push ends.before (last_start text b)) in
     let all : starts_between text 0 (length text) ≡ ends.before ++ last_start text b ∷ starts_between text (b + 1) (length text) =
     between-split text 0 b (length text) (omega arith) (omega arith) ∙ ap (λ xs. xs ++ starts_between text (b + 1) (length text)) ends.parts ∙ append_assoc ends.before (last_start text b ∷ []) (starts_between text (b + 1) (length text)) in
-    record {
-      start = last_start text b;
-      at = ap (slice_get (starts_between text 0 (length text))) number ∙ ap (λ xs. slice_get xs (length ends.before)) all ∙ slice_get-at ends.before (last_start text b) (starts_between text (b + 1) (length text));
-      below = omega (arith, last-le text b);
-      is = ap (last_start text) e;
-    }
+    grind (arith, slice_get-at, last-le)
 
 pub held : (text : List ℕ) (byte : ℕ) → Held text byte
 held text byte = held_at text byte (min byte (length text)) refl
@@ -185,15 +143,7 @@ held text byte = held_at text byte (min byte (length text)) refl
 
 -- behind an end, a line starts or the CR LF goes on
 behind-end : (text : List ℕ) (k : ℕ) → is_line_end (get_or text k 0) ≡ true → starts_line text (suc k) ≡ false → (get_or text k 0 ≡ 13) × (get_or text (suc k) 0 ≡ 10)
-behind-end text k e none =
-    let p = or_parts (get_or text k 0 == 10) (get_or text k 0 == 13 && not (get_or text (suc k) 0 == 10)) none in
-    elim (or_cases (get_or text k 0 == 10) (get_or text k 0 == 13) e) [
-      | inl feed ↦ absurd (both_ways (get_or text k 0 == 10) p.0 feed)
-      | inr return ↦ elim (and_cases (get_or text k 0 == 13) (not (get_or text (suc k) 0 == 10)) p.1) [
-        | inl other ↦ absurd (both_ways (get_or text k 0 == 13) other return)
-        | inr next ↦ (eqb-true (get_or text k 0) 13 return, eqb-true (get_or text (suc k) 0) 10 (not-false (get_or text (suc k) 0 == 10) next))
-      ]
-    ]
+behind-end text k e none = grind arith
 
 behind-feed : (text : List ℕ) (k : ℕ) → get_or text k 0 ≡ 10 → starts_line text (suc k) ≡ true
 behind-feed text k e = or_left (get_or text k 0 == 10) (get_or text k 0 == 13 && not (get_or text (suc k) 0 == 10)) (eq-eqb (get_or text k 0) 10 e)
@@ -217,15 +167,7 @@ reaches : (text : List ℕ) (byte n : ℕ) → byte ≤ length text → HasLine 
 reaches text byte n h line outside = elim (cases_lt (last_start text byte + n) byte) [ inl lt ↦ absurd (beyond text byte (last_start text byte + n) lt (line.ended (omega arith)) (last-after text byte) (omega arith) outside) | inr le ↦ le ]
 
 in-part : (text : List ℕ) (start n j : ℕ) → HasLine text start n → j ≤ n → IsCharBoundary text (start + j) → IsCharBoundary (line_at text start) j
-in-part text start n j line le b =
-    let within = line.within in
-    let long : length (take n (drop start text)) ≡ n = length-take-le n (drop start text) (omega (arith, length-drop start text)) in
-    subst (λ xs. IsCharBoundary xs j) (sym line.is) (
-      omega arith,
-      λ short big.
-          let same : get_or (take n (drop start text)) j 0 ≡ get_or text (start + j) 0 = get_or-take n (drop start text) j 0 (omega arith) ∙ get_or-drop start text j 0 in
-          subst (λ v. 192 ≤ v) (sym same) (b.1 (omega arith) (subst (λ v. 128 ≤ v) same big)),
-    )
+in-part text start n j line le b = grind (arith, length-take-le, length-drop, get_or-take, get_or-drop)
 
 line-utf8 : (text : List ℕ) (start n : ℕ) → IsUtf8 text → IsCharBoundary text start → HasLine text start n → IsUtf8 (line_at text start)
 line-utf8 text start n u b line =
@@ -250,10 +192,7 @@ place-back e text byte u b outside =
     let at : h.start + j ≡ byte = omega arith in
     let start_is : slice_index (line_starts text) (line_of text byte) ≡ h.start = index-from (line_starts text) (line_of text byte) h.start h.at in
     let part = in-part text h.start n j line (omega arith) (subst (IsCharBoundary text) (sym at) b) in
-    ap (byte_in e text (position_of e text byte).column) h.at
-    ∙ ap (λ s. h.start + bytes_before e (line_at text h.start) (column_of e (line_at text s) (byte - s))) start_is
-    ∙ ap (λ i. h.start + i) (column-back e (line_at text h.start) j (utf8-line text h.start u first) part)
-    ∙ at
+    grind (arith, column-back, utf8-line)
 
 -- ---- what a place of the table says
 
@@ -272,6 +211,4 @@ position line column = record { line = line; column = column }
 
 pub position-is : (e : Encoding) (text : List ℕ) (byte number column start : ℕ) → number ≡ line_of text byte → slice_get (line_starts text) (line_of text byte) ≡ Some start → column ≡ column_of e (line_at text start) (byte - start)
     → position number column ≡ position_of e text byte
-position-is e text byte number column start n at c =
-    ap (λ k. position k column) n
-    ∙ ap (position (line_of text byte)) (c ∙ ap (λ s. column_of e (line_at text s) (byte - s)) (sym (index-from (line_starts text) (line_of text byte) start at)))
+position-is e text byte number column start n at c = grind (arith, index-from)

@@ -1,16 +1,11 @@
 -- The starts of a text in which a stretch was replaced: those before it stay, and those behind it move.
-use Rattle.std.proofs.Common.{◌≡◌, ℕ, zero, suc, ◌+◌, ◌-◌, ◌^◌, ◌<◌, ◌≤◌, inl, inr, Bool, true, false, cond, ◌==◌, ◌&&◌, ◌||◌, not, nat_le, List, [], ◌∷◌, ◌++◌, length, map, take, drop, get_or, count_by, refl, sym, ap, ◌∙◌, arith, append_assoc, length-append, length-drop, length-take-le, get_or-take, get_or-drop}
-use Rattle.std.proofs.lemmas.Bool.{cases_lt, le-leb, lt-leb}
-use Rattle.std.proofs.lemmas.List.{drop_at, take_at}
+use Rattle.typst_positions.proofs.Cited.{◌≡◌, ℕ, suc, ◌+◌, ◌-◌, ◌^◌, ◌<◌, ◌≤◌, nat_le, List, [], ◌∷◌, ◌++◌, length, map, take, drop, get_or, count_by, sym, ap, ◌∙◌, arith, append_assoc, length-append, length-drop, length-take-le, get_or-take, get_or-drop, le-leb, lt-leb, drop_at, take_at, IsEdit, line_starts, replaced, shifted, starts_between, starts_line}
 use Rattle.std.specs.declared.ops.Range.{Range}
-use Rattle.typst_positions.specs.Positions.{IsEdit}
-use Rattle.typst_positions.specs.Starts.{line_starts, replaced, shifted, starts_between, starts_line}
 use Rattle.typst_positions.proofs.Holding.{count-between, passing, passing-is}
 use Rattle.typst_positions.proofs.Tables.{between-moved, between-same, between-split}
 
 starts-alike : (t u : List ℕ) (a b : ℕ) → get_or t a 0 ≡ get_or u b 0 → get_or t (suc a) 0 ≡ get_or u (suc b) 0 → starts_line t (suc a) ≡ starts_line u (suc b)
-starts-alike t u a b e f =
-    ap (λ c. c == 10 || (c == 13 && not (get_or t (suc a) 0 == 10))) e ∙ ap (λ d. get_or u b 0 == 10 || (get_or u b 0 == 13 && not (d == 10))) f
+starts-alike t u a b e f = grind arith
 
 -- a number moved by a distance that wraps round is as far after `to` as it was after `from`, where 64 bits hold that
 shifted-is : (from to at n : ℕ) → from < 2 ^ 64 → from ≤ at → n + from ≡ at + to → n < 2 ^ 64 → shifted from to at ≡ n
@@ -28,13 +23,10 @@ module _ (old new : List ℕ) (r : Range ℕ) (len : ℕ) (edit : IsEdit old new
       ap (λ k. get_or old k 0) from ∙ sym (get_or-drop r.end old i 0) ∙ ap (λ xs. get_or xs i 0) (sym edit.back) ∙ get_or-drop (r.start + len) new i 0 ∙ ap (λ k. get_or new k 0) to
 
   same-front : (before k : ℕ) → before ≡ r.start - 1 → k ≤ before → starts_line old k ≡ starts_line new k
-  same-front before zero b h = refl
-  same-front before (suc k) b h = starts-alike old new k k (get-front k (omega arith)) (get-front (suc k) (omega arith))
+  same-front before k b h = grind (arith, starts-alike, get-front)
 
   moved-back : (k l : ℕ) → r.end + 1 ≤ k → l + (r.end + 1) ≡ k + (r.start + len + 1) → starts_line old k ≡ starts_line new l
-  moved-back zero l h e = absurd (omega arith)
-  moved-back (suc k) zero h e = absurd (omega arith)
-  moved-back (suc k) (suc l) h e = starts-alike old new k l (get-back k l (omega arith) (omega arith)) (get-back (suc k) (suc l) (omega arith) (omega arith))
+  moved-back k l h e = grind (arith, starts-alike, get-back)
 
   lengths : length new + r.end ≡ length old + (r.start + len)
   lengths =
@@ -49,25 +41,15 @@ module _ (old new : List ℕ) (r : Range ℕ) (len : ℕ) (edit : IsEdit old new
       let fits = edit.fits in
       let front = between-same old new 0 before (λ k lo hi. same-front before k b hi) in
       let back = between-moved old new (shifted r.end to) (r.end + 1) (length old) (to + 1) (length new) (omega (arith, lengths)) (λ k m lo hi e. (moved-back k m lo e, shifted-is r.end to k m small (omega (arith, lo)) (omega (arith, e)) (omega (arith, lengths, e, hi, short)))) in
-      between-split new 0 before (length new) (omega arith) (omega (arith, fits, b))
-      ∙ ap (λ xs. xs ++ starts_between new (before + 1) (length new)) (sym front)
-      ∙ ap (λ xs. starts_between old 0 before ++ xs) (between-split new (before + 1) to (length new) (omega (arith, b)) fits)
-      ∙ ap (λ xs. starts_between old 0 before ++ (starts_between new (before + 1) to ++ xs)) back
+      grind (arith, between-split)
 
   parts : (before : ℕ) → before ≡ r.start - 1 → line_starts old ≡ starts_between old 0 before ++ (starts_between old (before + 1) r.end ++ starts_between old (r.end + 1) (length old))
   unfolding line_starts
-  parts before b =
-      let ordered = edit.ordered in
-      let within = edit.within in
-      between-split old 0 before (length old) (omega arith) (omega (arith, b, ordered, within))
-      ∙ ap (λ xs. starts_between old 0 before ++ xs) (between-split old (before + 1) r.end (length old) (omega (arith, b, ordered)) within)
+  parts before b = grind (arith, between-split)
 
   first-count : (before : ℕ) → before ≡ r.start - 1 → count_by (λ k. nat_le k before) (line_starts old) ≡ length (starts_between old 0 before)
   unfolding line_starts
-  first-count before b =
-      let ordered = edit.ordered in
-      let within = edit.within in
-      count-between old (λ k. nat_le k before) 0 before (length old) (omega arith) (omega (arith, b, ordered, within)) (λ k h. le-leb k before h) (λ k h _. lt-leb k before h)
+  first-count before b = grind (arith, count-between, le-leb, lt-leb)
 
   last-count : (before : ℕ) → before ≡ r.start - 1 → count_by (λ k. nat_le k r.end) (line_starts old) ≡ length (starts_between old 0 before) + length (starts_between old (before + 1) r.end)
   unfolding line_starts
@@ -100,23 +82,11 @@ put-moved f xs ys zs i j k h behind put =
     let front = take i xs in
     let size : length (front ++ ys) ≡ k = omega (arith, length-append front ys, length-take-le i xs h, behind) in
     let is : zs ≡ front ++ ys ++ drop j xs = put ∙ sym (append_assoc front ys (drop j xs)) in
-    ap (λ s. take k s ++ map f (drop k s)) is
-    ∙ ap (λ s. s ++ map f (drop k (front ++ ys ++ drop j xs))) (take_at (front ++ ys) (drop j xs) k size)
-    ∙ ap (λ s. front ++ ys ++ map f s) (drop_at (front ++ ys) (drop j xs) k size)
-    ∙ append_assoc front ys (map f (drop j xs))
-
-cond-more : (t : Bool) (m n : ℕ) → m ≤ n → m ≤ cond t (1 + n) n
-cond-more true m n h = omega arith
-cond-more false m n h = h
+    grind (arith, take_at, drop_at, append_assoc)
 
 passing-mono : (a b : ℕ) (xs : List ℕ) → a ≤ b → passing (λ x. nat_le x a) xs ≤ passing (λ x. nat_le x b) xs
 passing-mono a b [] h = omega arith
-passing-mono a b (x ∷ xs) h =
-    let rest = passing-mono a b xs h in
-    elim (cases_lt a x) [
-      | inr small ↦ rw (le-leb x a small, le-leb x b (omega arith)) (omega arith)
-      | inl large ↦ rw (lt-leb x a large) (cond-more (nat_le x b) (passing (λ y. nat_le y a) xs) (passing (λ y. nat_le y b) xs) rest)
-    ]
+passing-mono a b (x ∷ xs) h = grind (arith, passing-mono a b xs h)
 
 -- no fewer numbers are up to a greater one
 pub count-mono : (a b : ℕ) (xs : List ℕ) → a ≤ b → count_by (λ x. nat_le x a) xs ≤ count_by (λ x. nat_le x b) xs

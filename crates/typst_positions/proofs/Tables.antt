@@ -1,9 +1,5 @@
 -- The bytes between two ones where a line starts.
-use Rattle.std.proofs.Common.{◌≡◌, ℕ, zero, suc, ◌+◌, ◌-◌, ◌<◌, ◌≤◌, Bool, true, false, ◌==◌, cond, List, [], ◌∷◌, ◌++◌, length, map, filter, get_or, refl, sym, ap, ◌∙◌, arith}
-use Rattle.std.specs.List.{range_with_len}
-use Rattle.std.proofs.lemmas.Bool.{and_left, or_from, or_parts, false_from_ne_true}
-use Rattle.memchr.specs.Find.{Nowhere, Passes}
-use Rattle.typst_positions.specs.Starts.{is_line_end, line_starts, starts_between, starts_line}
+use Rattle.typst_positions.proofs.Cited.{◌≡◌, ℕ, zero, suc, ◌+◌, ◌-◌, ◌<◌, ◌≤◌, Bool, false, ◌==◌, cond, List, [], ◌∷◌, ◌++◌, length, map, filter, get_or, refl, ap, ◌∙◌, arith, and_left, or_from, or_parts, is_line_end, line_starts, starts_between, starts_line, range_with_len, Nowhere, Passes}
 
 -- ---- numbers in a row that pass a test
 
@@ -11,14 +7,10 @@ abbrev pub picked : (ℕ → Bool) → ℕ → ℕ → List ℕ
 picked p a n = filter p (range_with_len a n)
 
 cons-append : (t : Bool) (x : ℕ) (xs ys zs : List ℕ) → xs ≡ ys ++ zs → cond t (x ∷ xs) xs ≡ cond t (x ∷ ys) ys ++ zs
-cons-append true x xs ys zs e = ap (λ l. x ∷ l) e
-cons-append false x xs ys zs e = e
+cons-append t x xs ys zs e = grind arith
 
 picked-append : (p : ℕ → Bool) (m n k a b : ℕ) → k ≡ m + n → b ≡ a + m → picked p a k ≡ picked p a m ++ picked p b n
-picked-append p zero n k a b e f =
-    let same : k ≡ n = omega arith in
-    let here : a ≡ b = omega arith in
-    ap (λ i. picked p a i) same ∙ ap (λ i. picked p i n) here
+picked-append p zero n k a b e f = grind arith
 picked-append p (suc m) n zero a b e f = absurd (omega arith)
 picked-append p (suc m) n (suc k) a b e f = cons-append (p a) a _ _ _ (picked-append p m n k (a + 1) b (omega arith) (omega arith))
 
@@ -37,8 +29,7 @@ picked-none p zero a h = refl
 picked-none p (suc n) a h = cons-none (p a) a _ (h a (omega arith) (omega arith)) (picked-none p n (a + 1) (λ k lo hi. h k (omega arith) (omega arith)))
 
 cons-map : (f : ℕ → ℕ) (s t : Bool) (x y : ℕ) (xs ys : List ℕ) → s ≡ t → f x ≡ y → ys ≡ map f xs → cond t (y ∷ ys) ys ≡ map f (cond s (x ∷ xs) xs)
-cons-map f true t x y xs ys e g h = ap (λ b. cond b (y ∷ ys) ys) (sym e) ∙ ap (λ n. n ∷ ys) (sym g) ∙ ap (λ l. f x ∷ l) h
-cons-map f false t x y xs ys e g h = ap (λ b. cond b (y ∷ ys) ys) (sym e) ∙ h
+cons-map f s t x y xs ys e g h = grind arith
 
 picked-moved : (p q : ℕ → Bool) (f : ℕ → ℕ) (n a b : ℕ) → ((k l : ℕ) → a ≤ k → k < a + n → l + a ≡ k + b → (p k ≡ q l) × (f k ≡ l)) → picked q b n ≡ map f (picked p a n)
 picked-moved p q f zero a b h = refl
@@ -76,8 +67,7 @@ pub no-start : (text : List ℕ) (k : ℕ) → is_line_end (get_or text k 0) ≡
 no-start text k e = let p = or_parts (get_or text k 0 == 10) (get_or text k 0 == 13) e in or_from _ _ p.0 (and_left _ _ p.1)
 
 no-starts : (text : List ℕ) (from to k : ℕ) → Nowhere (Passes is_line_end text) from to → from + 1 ≤ k → k ≤ to → starts_line text k ≡ false
-no-starts text from to zero none lo hi = absurd (omega arith)
-no-starts text from to (suc k) none lo hi = no-start text k (false_from_ne_true _ (none k (omega arith) (omega arith)))
+no-starts text from to k h lo hi = grind arith
 
 pub none-left : (text : List ℕ) (from to : ℕ) → Nowhere (Passes is_line_end text) from to → starts_between text (from + 1) to ≡ []
 none-left text from to none = between-none text (from + 1) to (λ k lo hi. no-starts text from to k none lo hi)

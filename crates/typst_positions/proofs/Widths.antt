@@ -1,15 +1,7 @@
 -- What fronts of characters measure.
-use Rattle.std.proofs.Common.{◌≡◌, ℕ, suc, ◌+◌, ◌-◌, ◌<◌, ◌≤◌, ◌⊎◌, inl, inr, Bool, true, false, cond, nat_lt, List, [], ◌∷◌, ◌++◌, length, get_or, take, drop, refl, sym, ap, subst, ◌∙◌, arith, length-append, length-take-le, take-append-drop, le-ltb, lt-ltb}
-use Rattle.std.proofs.lemmas.Bool.{and_parts, cases_lt, le-leb, lt-leb}
-use Rattle.std.proofs.lemmas.List.{at_drop_more}
-use Rattle.std.proofs.lemmas.Str.{IsCharBoundary-at_seam, IsCharBoundary-from_take, IsUtf8-from_ascii, IsUtf8-take, chars-IsAscii, chars-append, encodes-append, encodes-chars, len_utf8_ascii, len_utf8_bounds, length-encode, scalars-chars}
-use Rattle.std.specs.Char.{len_utf8}
-use Rattle.std.specs.Str.{IsAscii, IsCharBoundary, IsUtf8, chars}
+use Rattle.typst_positions.proofs.Cited.{◌≡◌, ℕ, suc, ◌+◌, ◌-◌, ◌<◌, ◌≤◌, ◌⊎◌, inl, inr, Bool, true, cond, List, [], ◌∷◌, ◌++◌, length, get_or, take, drop, refl, sym, ap, subst, ◌∙◌, arith, length-append, length-take-le, take-append-drop, and_parts, cases_lt, le-leb, lt-leb, at_drop_more, len_utf8, IsAscii, IsCharBoundary, IsUtf8, chars, bytes_before, column_of, measured, width, IsCharBoundary-at_seam, IsCharBoundary-from_take, IsUtf8-from_ascii, IsUtf8-take, chars-IsAscii, chars-append, encodes-append, encodes-chars, len_utf8_ascii, len_utf8_bounds, length-encode, scalars-chars, Encoding}
 use lib.Utf8.{encodes, encode, scalar, scalars}
-use Rattle.typst_positions.specs.Columns.{bytes_before, column_of, measured, width}
 use Rattle.typst_positions.specs.Plain.{IsPlainFront}
-use Rattle.typst_positions.specs.declared.columns.Encoding.{Encoding}
-use Rattle.typst_positions.specs.declared.columns.Encoding.TheVariants.{Utf8, Utf16}
 
 abbrev pub total : (ℕ → ℕ) → List ℕ → ℕ
 total f [] = 0
@@ -18,31 +10,18 @@ total f (c ∷ cs) = f c + total f cs
 abbrev units_by : Bool → ℕ
 units_by b = cond b 1 2
 
-one-or-two : (b : Bool) → 1 ≤ units_by b
-one-or-two true = omega arith
-one-or-two false = omega arith
-
 wide : (c : ℕ) → 0x1_0000 ≤ c → len_utf8 c ≡ 4
-wide c h =
-    ap (λ b. cond b 1 (cond (nat_lt c 0x800) 2 (cond (nat_lt c 0x1_0000) 3 4))) (le-ltb c 0x80 (omega arith))
-    ∙ ap (λ b. cond b 2 (cond (nat_lt c 0x1_0000) 3 4)) (le-ltb c 0x800 (omega arith))
-    ∙ ap (λ b. cond b 3 4) (le-ltb c 0x1_0000 h)
+wide c h = grind arith
 
 -- a character takes a byte at least, and no fewer bytes than units
 pub width-some : (e : Encoding) (c : ℕ) → 1 ≤ width e c
-width-some Utf8 c = (len_utf8_bounds c).0
-width-some Utf16 c = one-or-two (nat_lt c 0x1_0000)
+width-some e c = grind arith
 
 pub width-le : (e : Encoding) (c : ℕ) → width e c ≤ len_utf8 c
-width-le Utf8 c = omega arith
-width-le Utf16 c = elim (cases_lt c 0x1_0000) [
-  | inl small ↦ subst (λ n. n ≤ len_utf8 c) (sym (ap units_by (lt-ltb c 0x1_0000 small))) (len_utf8_bounds c).0
-  | inr large ↦ omega (arith, wide c large, ap units_by (le-ltb c 0x1_0000 large))
-]
+width-le e c = grind arith
 
 pub width-ascii : (e : Encoding) (c : ℕ) → c < 128 → width e c ≡ 1
-width-ascii Utf8 c h = len_utf8_ascii c h
-width-ascii Utf16 c h = ap units_by (lt-ltb c 0x1_0000 (omega arith))
+width-ascii e c h = grind arith
 
 -- ---- one character
 
@@ -107,14 +86,7 @@ front_of line n u b =
 -- a column leads back to its byte
 pub column-back : (e : Encoding) (line : List ℕ) (n : ℕ) → IsUtf8 line → IsCharBoundary line n → bytes_before e line (column_of e line n) ≡ n
 unfolding bytes_before column_of
-column-back e line n u b =
-    let f = front_of line n u b in
-    let wide : measured (width e) len_utf8 n (chars line) ≡ total (width e) f.front =
-    ap (measured (width e) len_utf8 n) f.parts ∙ ap (λ m. measured (width e) len_utf8 m (f.front ++ f.back)) (sym f.size) ∙ measured-front (width e) len_utf8 (λ c. (len_utf8_bounds c).0) f.front f.back in
-    ap (λ m. measured len_utf8 (width e) m (chars line)) wide
-    ∙ ap (measured len_utf8 (width e) (total (width e) f.front)) f.parts
-    ∙ measured-front len_utf8 (width e) (width-some e) f.front f.back
-    ∙ f.size
+column-back e line n u b = let f = front_of line n u b in grind (arith, measured-front, len_utf8_bounds, width-some)
 
 -- ---- what is measured ends with a character
 

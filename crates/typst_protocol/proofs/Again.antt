@@ -1,16 +1,8 @@
 -- What was written is read again.
-use Rattle.std.proofs.Common.{◌≡◌, ℕ, ◌+◌, ◌-◌, ◌^◌, ◌<◌, ◌≤◌, Bool, true, false, ◌&&◌, ◌==◌, not, cond, List, [], ◌∷◌, ◌++◌, length, get_or, take, drop, None, Some, Ok, refl, sym, ap, subst, ◌∙◌, arith, nat_lt, lt-ltb, append_assoc, length-append}
+use Rattle.typst_protocol.proofs.Cited.{◌≡◌, ℕ, ◌+◌, ◌-◌, ◌^◌, ◌<◌, ◌≤◌, Bool, true, false, ◌&&◌, ◌==◌, not, cond, List, [], ◌∷◌, ◌++◌, length, get_or, take, drop, None, Some, Ok, refl, sym, ap, ◌∙◌, arith, nat_lt, lt-ltb, append_assoc, length-append, and_left, and_right, ne_eqb, or_from, all_ascii_digits, Has, ◌>>=◌, before_crlf, body, frame, head, line_len, written, is_blank, length_after, number, trimmed, unled, Clean, digit_at, digit_from_value, AllDigits, digits_value, codes, decimal}
 use Rattle.std.specs.List.{AllByRecursion, flat_map}
-use Rattle.std.specs.Prelude.{codes, decimal, option_and_then, option_map, reverse}
-use Rattle.std.proofs.lemmas.Bool.{and_left, and_right, ne_eqb, or_from}
 use Rattle.std.proofs.lemmas.Fmt.{decimal_is_IsNumeral, length-decimal-le}
 use Rattle.std.proofs.lemmas.List.{drop_at, get_or-reverse, length-reverse, reverse-reverse, take_at}
-use Rattle.std.proofs.lemmas.Str.Parse.{digit_at, digit_from_value}
-use Rattle.std.specs.Str.{all_ascii_digits}
-use Rattle.std.specs.Str.Parse.{AllDigits, digits_value}
-use Rattle.typst_protocol.specs.Frames.{Has, ◌>>=◌, before_crlf, body, frame, head, line_len, written}
-use Rattle.typst_protocol.specs.Header.{agreed, header, is_blank, length_after, number, trimmed, unled}
-use Rattle.typst_protocol.specs.declared.frames.reader.End.TheVariants.{Clean}
 use Rattle.typst_protocol.proofs.Heads.{body_whole, frame_some, head-end, head-more}
 use Rattle.typst_protocol.proofs.Lines.{line-read, then_some}
 use Rattle.typst_protocol.proofs.Numbers.{own}
@@ -22,8 +14,7 @@ no_return [] = true
 no_return (c ∷ cs) = not (c == 13) && no_return cs
 
 not-return : (t : Bool) (rest : Bool) → (not t && rest) ≡ true → (t ≡ false) × (rest ≡ true)
-not-return true rest e = cc
-not-return false rest e = (refl, e)
+not-return t rest e = grind arith
 
 crlf-behind : (xs ys : List ℕ) → no_return xs ≡ true → before_crlf (xs ++ 13 ∷ 10 ∷ ys) ≡ Some (length xs)
 crlf-behind [] ys e = refl
@@ -48,12 +39,7 @@ unled-digits [] h = refl
 unled-digits (d ∷ ds) h = ap (λ b. cond b (unled ds) (d ∷ ds)) (no-blank d (h (omega arith)))
 
 trimmed-digits : (ds : List ℕ) → AllDigits 10 ds → trimmed (32 ∷ ds) ≡ ds
-trimmed-digits ds all =
-    ap (λ xs. reverse (unled (reverse xs))) (unled-digits ds (λ some. (digit_at ds 0 all some).0))
-    ∙ ap reverse (unled-digits (reverse ds) (λ some.
-    let long = length-reverse ds in
-    subst (λ c. 48 ≤ c) (sym (get_or-reverse ds 0 0 (omega arith))) (digit_at ds (length ds - 1 - 0) all (omega arith)).0))
-    ∙ reverse-reverse ds
+trimmed-digits ds all = grind (arith, unled-digits, digit_at, length-reverse, get_or-reverse, reverse-reverse)
 
 number-digits : (ds : List ℕ) (n : ℕ) → 0 < length ds → AllDigits 10 ds → digits_value 10 ds ≡ n → n < 2 ^ 64 → number ds ≡ Some n
 number-digits ds n some all value fits =
@@ -67,10 +53,7 @@ abbrev name : List ℕ
 name = codes "Content-Length: "
 
 line-length : (ds : List ℕ) (n : ℕ) → 0 < length ds → AllDigits 10 ds → digits_value 10 ds ≡ n → n < 2 ^ 64 → length_after (name ++ ds) None ≡ Some (Some n)
-line-length ds n some all value fits =
-    ap (λ b. option_and_then (header None) (option_map (λ k. (take k (name ++ ds), drop (k + 1) (name ++ ds))) (cond b (Some 14) None))) (lt-ltb 14 (length (name ++ ds)) (omega (arith, length-append name ds)))
-    ∙ ap (λ xs. option_and_then (agreed None) (number xs)) (trimmed-digits ds all)
-    ∙ ap (option_and_then (agreed None)) (number-digits ds n some all value fits)
+line-length ds n some all value fits = grind (arith, cond, lt-ltb, length-append, trimmed-digits, number-digits)
 
 -- ---- a frame
 

@@ -1,5 +1,4 @@
 -- From what a contract promises to the lemma behind it:
---   bytes that were read, or none            Taken: first-kept, value-kept, short-at-end
 --   a line that was read, or why none was    Lines: line-read, line-cut, line-long; Taken: reads-line, cut-line, long-line
 --   a number in a header                     Numbers: number-parsed, number-none
 --   a head by its lines                      Heads: goes-on, goes-malformed, goes-err, goes-end, goes-out
@@ -11,6 +10,7 @@
 --   an object that is written                Events: ends-map
 
 pub mod Again
+pub mod Cited
 pub mod Events
 pub mod Heads
 pub mod Lines

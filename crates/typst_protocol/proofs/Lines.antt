@@ -1,28 +1,14 @@
 -- The first CR LF of bytes that come one by one.
-use Rattle.std.proofs.Common.{◌≡◌, ℕ, ◌+◌, ◌-◌, ◌<◌, ◌≤◌, Bool, true, false, ◌&&◌, ◌==◌, cond, List, [], ◌∷◌, ◌++◌, length, take, drop, Option, None, Some, Ok, Err, refl, sym, ap, ◌∙◌, arith, nat_lt, lt-ltb, le-ltb, length-append}
-use Rattle.std.specs.Prelude.{option_map}
-use Rattle.std.proofs.lemmas.Bool.{and_parts, eqb-true, false_from_ne_true}
+use Rattle.typst_protocol.proofs.Cited.{◌≡◌, ℕ, ◌+◌, ◌-◌, ◌<◌, ◌≤◌, Bool, false, ◌&&◌, ◌==◌, cond, List, [], ◌∷◌, ◌++◌, length, take, drop, Option, None, Some, Ok, Err, refl, ap, ◌∙◌, arith, nat_lt, lt-ltb, le-ltb, length-append, option_map, and_parts, eqb-true, false_from_ne_true, before_crlf, line_len, Malformed, CutOff, ok_or}
 use Rattle.std.proofs.lemmas.List.{take_all, take_at, drop_at}
-use Rattle.std.specs.Option.{ok_or}
 use lib.Seq.{take-add}
-use Rattle.typst_protocol.specs.Frames.{before_crlf, line_len}
-use Rattle.typst_protocol.specs.declared.frames.reader.End.TheVariants.{Malformed, CutOff}
 
 abbrev more : ℕ → ℕ
 more n = n + 1
 
-some_of_map : (r : Option ℕ) (n : ℕ) → option_map more r ≡ Some n → (m : ℕ) × (r ≡ Some m) × (n ≡ m + 1)
-some_of_map None n e = cc
-some_of_map (Some m) n e = (m, refl, cc)
-
-none_of_map : (r : Option ℕ) → option_map more r ≡ None → r ≡ None
-none_of_map None e = refl
-none_of_map (Some m) e = cc
-
 -- a CR LF that stands in a front is the first one of the whole
 found : (b : Bool) (r s : Option ℕ) (n : ℕ) → cond b (Some 0) (option_map more r) ≡ Some n → ((m : ℕ) → r ≡ Some m → s ≡ Some m) → cond b (Some 0) (option_map more s) ≡ Some n
-found true r s n e h = e
-found false r s n e h = let m = some_of_map r n e in ap (option_map more) (h m.0 m.1) ∙ ap (λ k. Some k) (sym m.2)
+found b r s n e h = grind arith
 
 pub crlf-front : (xs ys : List ℕ) (n : ℕ) → before_crlf xs ≡ Some n → before_crlf (xs ++ ys) ≡ Some n
 crlf-front [] ys n e = cc
@@ -30,18 +16,10 @@ crlf-front (c ∷ []) ys n e = cc
 crlf-front (c ∷ d ∷ xs) ys n e = found (c == 13 && d == 10) (before_crlf (d ∷ xs)) (before_crlf (d ∷ xs ++ ys)) n e (crlf-front (d ∷ xs) ys)
 
 room : (b : Bool) (r : Option ℕ) (k n : ℕ) → cond b (Some 0) (option_map more r) ≡ Some n → ((m : ℕ) → r ≡ Some m → m + 2 ≤ k + 1) → n + 2 ≤ k + 2
-room true r k n e h = let z : n ≡ 0 = cc in omega arith
-room false r k n e h = let m = some_of_map r n e in omega (arith, h m.0 m.1, m.2)
-
--- a CR LF has two bytes
-pub crlf-room : (xs : List ℕ) (n : ℕ) → before_crlf xs ≡ Some n → n + 2 ≤ length xs
-crlf-room [] n e = cc
-crlf-room (c ∷ []) n e = cc
-crlf-room (c ∷ d ∷ xs) n e = omega (arith, room (c == 13 && d == 10) (before_crlf (d ∷ xs)) (length xs) n e (λ m h. omega (arith, crlf-room (d ∷ xs) m h)))
+room b r k n e h = grind arith
 
 not_yet : (b : Bool) (r : Option ℕ) → cond b (Some 0) (option_map more r) ≡ None → (b ≡ false) × (r ≡ None)
-not_yet true r e = cc
-not_yet false r e = (refl, none_of_map r e)
+not_yet b r e = grind arith
 
 not_both : (b c : ℕ) → (b ≡ 13 → c ≡ 10 → ⊥) → (b == 13 && c == 10) ≡ false
 not_both b c h = false_from_ne_true _ (λ both. let p = and_parts (b == 13) (c == 10) both in h (eqb-true _ _ p.0) (eqb-true _ _ p.1))

@@ -1,21 +1,12 @@
 -- A text is mended piece by piece.
-use Rattle.std.proofs.Common.{◌≡◌, ℕ, ◌+◌, ◌*◌, ◌<◌, ◌&&◌, true≢false, ◌≤◌, Bool, true, false, cond, ◌==◌, List, [], ◌∷◌, ◌++◌, length, get_or, take, drop, Option, None, Some, refl, sym, ap, subst, ◌∙◌, arith, append_assoc, append-nil, length-append, length-drop, take-append-drop, length-take-le, take_all, take_at, drop_at, take-add, drop-drop, get_or-drop}
-use Rattle.std.proofs.lemmas.List.{drop_all}
+use Rattle.typst_protocol.proofs.Cited.{◌≡◌, ℕ, ◌+◌, ◌*◌, ◌<◌, ◌&&◌, ◌≤◌, Bool, true, false, cond, ◌==◌, List, [], ◌∷◌, ◌++◌, length, get_or, take, drop, Option, None, Some, refl, sym, ap, subst, ◌∙◌, arith, append_assoc, append-nil, length-append, length-drop, take-append-drop, length-take-le, take_all, take_at, drop_at, take-add, drop-drop, get_or-drop, drop_all, begins_low, hexadecimal, is_lone, mended, mended_behind, read_as, unit}
 use Rattle.std.specs.Char.{digit_value, is_digit}
-use Rattle.std.specs.Option.{option_map_or}
 use Rattle.json.specs.Text.{code_unit, is_high_surrogate}
-use Rattle.typst_protocol.specs.Escapes.{begins_low, hexadecimal, is_lone, mended, mended_behind, read_as, unit}
 
 -- fewer than six bytes stay
 short : (p : Bool) (t : List ℕ) → length t < 6 → mended_behind p t ≡ t
 unfolding mended_behind
-short p [] h = refl
-short p (a ∷ []) h = refl
-short p (a ∷ b ∷ []) h = refl
-short p (a ∷ b ∷ c ∷ []) h = refl
-short p (a ∷ b ∷ c ∷ d ∷ []) h = refl
-short p (a ∷ b ∷ c ∷ d ∷ e ∷ []) h = refl
-short p (a ∷ b ∷ c ∷ d ∷ e ∷ f ∷ t) h = absurd (omega arith)
+short p t h = grind arith
 
 -- behind the escape of a code unit
 by_unit : (p : Bool) (t : List ℕ) (u : ℕ) → unit t ≡ Some u → 6 ≤ length t → mended_behind p t ≡ read_as (is_lone p u (begins_low (drop 6 t))) (take 6 t) ++ mended_behind (is_high_surrogate u) (drop 6 t)
@@ -26,20 +17,15 @@ by_unit p (a ∷ b ∷ []) u is room = absurd (omega arith)
 by_unit p (a ∷ b ∷ c ∷ []) u is room = absurd (omega arith)
 by_unit p (a ∷ b ∷ c ∷ d ∷ []) u is room = absurd (omega arith)
 by_unit p (a ∷ b ∷ c ∷ d ∷ e ∷ []) u is room = absurd (omega arith)
-by_unit p (a ∷ b ∷ c ∷ d ∷ e ∷ f ∷ t) u is room =
-    ap (λ (o : Option ℕ). option_map_or (λ v. read_as (is_lone p v (begins_low t)) (a ∷ b ∷ c ∷ d ∷ e ∷ f ∷ []) ++ mended_behind (is_high_surrogate v) t) o
-    (cond (a == 92) (a ∷ b ∷ mended_behind false (c ∷ d ∷ e ∷ f ∷ t)) (a ∷ mended_behind false (b ∷ c ∷ d ∷ e ∷ f ∷ t)))) is
+by_unit p (a ∷ b ∷ c ∷ d ∷ e ∷ f ∷ t) u is room = grind arith
 
 by_short : (p : Bool) (t : List ℕ) (n : ℕ) → length t < 6 → mended_behind p t ≡ take n t ++ mended_behind false (drop n t)
-by_short p t n h =
-    let less : length (drop n t) < 6 = omega (arith, length-drop n t) in
-    short p t h ∙ sym (take-append-drop n t) ∙ ap (λ s. take n t ++ s) (sym (short false (drop n t) less))
+by_short p t n h = grind (arith, length-drop, short, take-append-drop)
 
 by_first : (two : Bool) (a b c d e f : ℕ) (t : List ℕ) →
     cond two (a ∷ b ∷ mended_behind false (c ∷ d ∷ e ∷ f ∷ t)) (a ∷ mended_behind false (b ∷ c ∷ d ∷ e ∷ f ∷ t))
     ≡ take (cond two 2 1) (a ∷ b ∷ c ∷ d ∷ e ∷ f ∷ t) ++ mended_behind false (drop (cond two 2 1) (a ∷ b ∷ c ∷ d ∷ e ∷ f ∷ t))
-by_first true a b c d e f t = refl
-by_first false a b c d e f t = refl
+by_first two a b c d e f t = grind arith
 
 -- behind a piece that is no such escape
 by_piece : (p : Bool) (t : List ℕ) → unit t ≡ None → mended_behind p t ≡ take (cond (get_or t 0 0 == 92) 2 1) t ++ mended_behind false (drop (cond (get_or t 0 0 == 92) 2 1) t)
@@ -50,22 +36,15 @@ by_piece p (a ∷ b ∷ []) none = by_short p (a ∷ b ∷ []) (cond (a == 92) 2
 by_piece p (a ∷ b ∷ c ∷ []) none = by_short p (a ∷ b ∷ c ∷ []) (cond (a == 92) 2 1) (omega arith)
 by_piece p (a ∷ b ∷ c ∷ d ∷ []) none = by_short p (a ∷ b ∷ c ∷ d ∷ []) (cond (a == 92) 2 1) (omega arith)
 by_piece p (a ∷ b ∷ c ∷ d ∷ e ∷ []) none = by_short p (a ∷ b ∷ c ∷ d ∷ e ∷ []) (cond (a == 92) 2 1) (omega arith)
-by_piece p (a ∷ b ∷ c ∷ d ∷ e ∷ f ∷ t) none =
-    ap (λ (o : Option ℕ). option_map_or (λ v. read_as (is_lone p v (begins_low t)) (a ∷ b ∷ c ∷ d ∷ e ∷ f ∷ []) ++ mended_behind (is_high_surrogate v) t) o
-    (cond (a == 92) (a ∷ b ∷ mended_behind false (c ∷ d ∷ e ∷ f ∷ t)) (a ∷ mended_behind false (b ∷ c ∷ d ∷ e ∷ f ∷ t)))) none
-    ∙ by_first (a == 92) a b c d e f t
+by_piece p (a ∷ b ∷ c ∷ d ∷ e ∷ f ∷ t) none = grind (arith, cond, by_first)
 
 -- up to a byte a body is mended, and behind it as it was
 pub record Mends (old body : List ℕ) (at : ℕ) (p : Bool) : Type 0 where
   pub size : length body ≡ length old
   pub joined : take at body ++ mended_behind p (drop at body) ≡ mended old
 
-pub mends-first : (body : List ℕ) → Mends body body 0 false
-mends-first body = record { size = refl; joined = refl }
-
 read_as_six : (lone : Bool) (t : List ℕ) → length t ≡ 6 → length (read_as lone t) ≡ 6
-read_as_six true t h = refl
-read_as_six false t h = h
+read_as_six lone t h = grind arith
 
 pub mends-unit : (old body new : List ℕ) (at u : ℕ) (p : Bool) → at + 6 ≤ length body → unit (drop at body) ≡ Some u
     → new ≡ take at body ++ read_as (is_lone p u (begins_low (drop (at + 6) body))) (take 6 (drop at body)) ++ drop (at + 6) body
@@ -83,52 +62,20 @@ mends-unit old body new at u p room is made stays before =
     let dropped : drop (at + 6) new ≡ rest = ap (drop (at + 6)) made ∙ drop_at (front ++ mid) rest (at + 6) size in
     let step : mended_behind p (drop at body) ≡ mid ++ behind =
     subst (λ (r : List ℕ). mended_behind p (drop at body) ≡ read_as (is_lone p u (begins_low r)) six ++ mended_behind (is_high_surrogate u) r) (drop-drop 6 at body) (by_unit p (drop at body) u is left) in
-    record {
-      size = stays ∙ before.size;
-      joined =
-          ap (λ (t : List ℕ). t ++ mended_behind (is_high_surrogate u) (drop (at + 6) new)) taken
-          ∙ ap (λ (r : List ℕ). (front ++ mid) ++ mended_behind (is_high_surrogate u) r) dropped
-          ∙ append_assoc front mid behind
-          ∙ ap (λ (r : List ℕ). front ++ r) (sym step)
-          ∙ before.joined;
-    }
+    grind (arith, append_assoc)
 
 pub mends-piece : (old body : List ℕ) (at n : ℕ) (p : Bool) → unit (drop at body) ≡ None → n ≡ cond (get_or body at 0 == 92) 2 1 → Mends old body at p → Mends old body (at + n) false
-mends-piece old body at n p none is before =
-    let first : get_or (drop at body) 0 0 ≡ get_or body at 0 = get_or-drop at body 0 0 ∙ ap (λ (k : ℕ). get_or body k 0) (omega arith) in
-    let len : cond (get_or (drop at body) 0 0 == 92) 2 1 ≡ n = ap (λ (a : ℕ). cond (a == 92) 2 1) first ∙ sym is in
-    let step : mended_behind p (drop at body) ≡ take n (drop at body) ++ mended_behind false (drop n (drop at body)) =
-    subst (λ (k : ℕ). mended_behind p (drop at body) ≡ take k (drop at body) ++ mended_behind false (drop k (drop at body))) len (by_piece p (drop at body) none) in
-    record {
-      size = before.size;
-      joined =
-          ap (λ (t : List ℕ). t ++ mended_behind false (drop (at + n) body)) (take-add at n body)
-          ∙ append_assoc (take at body) (take n (drop at body)) (mended_behind false (drop (at + n) body))
-          ∙ ap (λ (r : List ℕ). take at body ++ (take n (drop at body) ++ mended_behind false r)) (sym (drop-drop n at body))
-          ∙ ap (λ (r : List ℕ). take at body ++ r) (sym step)
-          ∙ before.joined;
-    }
+mends-piece old body at n p none is before = grind (arith, get_or-drop, cond, by_piece, take-add, append_assoc, drop-drop)
 
 pub mends-end : (old body : List ℕ) (at : ℕ) (p : Bool) → length body ≤ at → Mends old body at p → body ≡ mended old
-mends-end old body at p past done =
-    let all : take at body ≡ body = take_all at body past in
-    let none : mended_behind p (drop at body) ≡ [] = ap (mended_behind p) (drop_all at body past) ∙ short p [] (omega arith) in
-    sym (ap (λ (t : List ℕ). t ++ mended_behind p (drop at body)) all ∙ ap (λ (r : List ℕ). body ++ r) none ∙ append-nil body) ∙ done.joined
+mends-end old body at p past done = grind (arith, take_all, drop_all, short, append-nil)
 
 -- hexadecimal digits
 digit-none : (c : ℕ) → None ≡ hexadecimal c → is_digit c 16 ≡ false
-digit-none c h = go (is_digit c 16) h
-  where
-    go : (b : Bool) → None ≡ cond b (Some (digit_value c)) None → b ≡ false
-    go true h = cc
-    go false h = refl
+digit-none c h = grind arith
 
 digit-some : (c v : ℕ) → Some v ≡ hexadecimal c → (is_digit c 16 ≡ true) × (digit_value c ≡ v)
-digit-some c v h = go (is_digit c 16) h
-  where
-    go : (b : Bool) → Some v ≡ cond b (Some (digit_value c)) None → (b ≡ true) × (digit_value c ≡ v)
-    go true h = (refl, cc)
-    go false h = let e : true ≡ false = cc in absurd (true≢false e)
+digit-some c v h = grind arith
 
 -- what the tests of four digits choose
 four : (p q r s : Bool) → Option ℕ → Option ℕ
@@ -147,44 +94,19 @@ code-none-1 a b c d na = code-is a b c d ∙ ap (λ v. four v (is_digit b 16) (i
 
 pub code-none-2 : (a b c d x : ℕ) → Some x ≡ hexadecimal a → None ≡ hexadecimal b → code_unit a b c d ≡ None
 unfolding four
-code-none-2 a b c d x sa nb =
-    code-is a b c d
-    ∙ ap (λ v. four v (is_digit b 16) (is_digit c 16) (is_digit d 16) (Some (code_of a b c d))) (digit-some a x sa).0
-    ∙ ap (λ v. four true v (is_digit c 16) (is_digit d 16) (Some (code_of a b c d))) (digit-none b nb)
+code-none-2 a b c d x sa nb = grind (arith, code-is, digit-some, digit-none)
 
 pub code-none-3 : (a b c d x y : ℕ) → Some x ≡ hexadecimal a → Some y ≡ hexadecimal b → None ≡ hexadecimal c → code_unit a b c d ≡ None
 unfolding four
-code-none-3 a b c d x y sa sb nc =
-    code-is a b c d
-    ∙ ap (λ v. four v (is_digit b 16) (is_digit c 16) (is_digit d 16) (Some (code_of a b c d))) (digit-some a x sa).0
-    ∙ ap (λ v. four true v (is_digit c 16) (is_digit d 16) (Some (code_of a b c d))) (digit-some b y sb).0
-    ∙ ap (λ v. four true true v (is_digit d 16) (Some (code_of a b c d))) (digit-none c nc)
+code-none-3 a b c d x y sa sb nc = grind (arith, code-is, digit-some, digit-none)
 
 pub code-none-4 : (a b c d x y z : ℕ) → Some x ≡ hexadecimal a → Some y ≡ hexadecimal b → Some z ≡ hexadecimal c → None ≡ hexadecimal d → code_unit a b c d ≡ None
 unfolding four
-code-none-4 a b c d x y z sa sb sc nd =
-    code-is a b c d
-    ∙ ap (λ v. four v (is_digit b 16) (is_digit c 16) (is_digit d 16) (Some (code_of a b c d))) (digit-some a x sa).0
-    ∙ ap (λ v. four true v (is_digit c 16) (is_digit d 16) (Some (code_of a b c d))) (digit-some b y sb).0
-    ∙ ap (λ v. four true true v (is_digit d 16) (Some (code_of a b c d))) (digit-some c z sc).0
-    ∙ ap (λ v. four true true true v (Some (code_of a b c d))) (digit-none d nd)
+code-none-4 a b c d x y z sa sb sc nd = grind (arith, code-is, digit-some, digit-none)
 
 pub code-some : (a b c d x y z w : ℕ) → Some x ≡ hexadecimal a → Some y ≡ hexadecimal b → Some z ≡ hexadecimal c → Some w ≡ hexadecimal d → code_unit a b c d ≡ Some (x * 4096 + y * 256 + z * 16 + w)
 unfolding four code_of
-code-some a b c d x y z w sa sb sc sd =
-    let ha = digit-some a x sa in
-    let hb = digit-some b y sb in
-    let hc = digit-some c z sc in
-    let hd = digit-some d w sd in
-    code-is a b c d
-    ∙ ap (λ v. four v (is_digit b 16) (is_digit c 16) (is_digit d 16) (Some (code_of a b c d))) ha.0
-    ∙ ap (λ v. four true v (is_digit c 16) (is_digit d 16) (Some (code_of a b c d))) hb.0
-    ∙ ap (λ v. four true true v (is_digit d 16) (Some (code_of a b c d))) hc.0
-    ∙ ap (λ v. four true true true v (Some (code_of a b c d))) hd.0
-    ∙ ap (λ v. Some (v * 4096 + digit_value b * 256 + digit_value c * 16 + digit_value d)) ha.1
-    ∙ ap (λ v. Some (x * 4096 + v * 256 + digit_value c * 16 + digit_value d)) hb.1
-    ∙ ap (λ v. Some (x * 4096 + y * 256 + v * 16 + digit_value d)) hc.1
-    ∙ ap (λ v. Some (x * 4096 + y * 256 + z * 16 + v)) hd.1
+code-some a b c d x y z w sa sb sc sd = grind (arith, digit-some, code-is)
 
 -- an escape that stays
 pub stays : (body : List ℕ) (at : ℕ) (lone : Bool) → lone ≡ false → body ≡ take at body ++ read_as lone (take 6 (drop at body)) ++ drop (at + 6) body

@@ -1,12 +1,6 @@
 -- Numbers that digits write.
-use Rattle.std.proofs.Common.{◌≡◌, ◌≢◌, ℕ, ◌<◌, ◌^◌, true, ◌&&◌, nat_lt, List, length, get_or, Some, None, Result, MatchResult, Ok, Err, sym, ap, subst, arith, lt-ltb, ltb-true, inl, inr}
-use Rattle.std.proofs.lemmas.Bool.{and_parts, cases_lt, cond-false, false_from_ne_true}
-use Rattle.std.proofs.lemmas.List.{get_or_past}
+use Rattle.typst_protocol.proofs.Cited.{◌≡◌, ◌≢◌, ℕ, ◌<◌, ◌^◌, true, ◌&&◌, nat_lt, List, length, get_or, Some, None, Result, MatchResult, Ok, Err, sym, ap, subst, arith, lt-ltb, ltb-true, inl, inr, and_parts, cases_lt, cond-false, false_from_ne_true, get_or_past, IsAscii, IsUtf8, all_ascii_digits, number, IsNumeralModel, digit_at, numerals_by_value, tells_all_ascii_digits, without_leading_plus_none, AllDigits, IsNumeral, ParsesUnsigned, digits_value, without_leading_plus}
 use Rattle.std.proofs.lemmas.Str.{IsUtf8-from_ascii}
-use Rattle.std.proofs.lemmas.Str.Parse.{IsNumeralModel, digit_at, numerals_by_value, tells_all_ascii_digits, without_leading_plus_none}
-use Rattle.std.specs.Str.{IsAscii, IsUtf8, all_ascii_digits}
-use Rattle.std.specs.Str.Parse.{AllDigits, IsNumeral, ParsesUnsigned, digits_value, without_leading_plus}
-use Rattle.typst_protocol.specs.Header.{number}
 
 pub own : IsNumeralModel (λ ds. all_ascii_digits ds ≡ true) (digits_value 10)
 own = numerals_by_value (λ ds. all_ascii_digits ds ≡ true) tells_all_ascii_digits

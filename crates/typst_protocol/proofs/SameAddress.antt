@@ -1,9 +1,7 @@
 -- Addresses of one document are the same to any other one.
-use Rattle.std.proofs.Common.{◌≡◌, ℕ, List, true, ap, sym}
+use Rattle.typst_protocol.proofs.Cited.{◌≡◌, ℕ, List, true, ap, sym, bytes_eq, is_same}
 use Rattle.std.proofs.lemmas.Slice.Eq.{bytes_eq-Decides}
-use Rattle.std.specs.Str.{bytes_eq}
 use Rattle.percent_encoding.specs.Percent.{percent_decode}
-use Rattle.typst_protocol.specs.Addresses.{is_same}
 
 -- on the left
 pub same-as : (a b c : List ℕ) → is_same a b ≡ true → is_same a c ≡ is_same b c

@@ -1,9 +1,6 @@
 -- Known bytes that are written piece by piece.
-use Rattle.std.proofs.Common.{◌≡◌, ℕ, ◌+◌, ◌≤◌, min, List, ◌++◌, Option, Result, Ok, Err, OnOk, length, take, drop, refl, subst, sym, ap, ◌∙◌, arith, take_all}
-use Rattle.std.proofs.KnownBytes.{Appends-trans}
+use Rattle.typst_protocol.proofs.Cited.{◌≡◌, ℕ, ◌+◌, ◌≤◌, min, List, ◌++◌, Option, Result, OnOk, length, take, drop, refl, subst, sym, ap, ◌∙◌, arith, take_all, Appends-trans, Appends, Begins}
 use Rattle.std.proofs.lemmas.List.{drop_at, take-append-le, take_at, take_min}
-use Rattle.std.specs.Io.KnownBytes.{Appends}
-use Rattle.typst_protocol.specs.Stream.{Begins}
 use lib.Seq.{take-add}
 
 pub Appends-piece : (a b c : Option (List ℕ)) (bytes : List ℕ) (done n : ℕ) → Appends a b (take done bytes) → Appends b c (take n (drop done bytes))
@@ -27,5 +24,4 @@ pub begins-whole : (a b : Option (List ℕ)) (bytes : List ℕ) → Appends a b 
 begins-whole a b bytes h = (length bytes, subst (Appends a b) (sym (take_all (length bytes) bytes (omega arith))) h)
 
 pub on-ok : {T E : Type 0} (r : Result T E) (P : Type 0) → P → OnOk r P
-on-ok (Ok x) P p = p
-on-ok (Err e) P p = tt
+on-ok r P p = grind arith

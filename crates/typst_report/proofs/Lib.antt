@@ -9,6 +9,7 @@
 --   locate                       PlacedLemmas: one more finding with its places
 --   lines_of, commands_of        LineLemmas: the lines of one more finding
 --   write_numbers, write_reported  TokenLemmas: tokens one after another
+pub mod Cited
 mod PrintedLemmas
 mod Printing
 mod StreamLemmas

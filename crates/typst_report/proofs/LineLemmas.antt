@@ -1,7 +1,5 @@
 -- The lines of one more finding.
-use Rattle.std.proofs.Common.{◌≡◌, ℕ, ◌+◌, ◌<◌, List, ◌∷◌, ◌++◌, length, get_or, drop, ap, sym, ◌∙◌, append_assoc}
-use Rattle.std.proofs.lemmas.List.{at_drop_more}
-use Rattle.typst_report.specs.declared.located.Located.{Located}
+use Rattle.typst_report.proofs.Cited.{◌≡◌, ℕ, ◌+◌, ◌<◌, List, ◌∷◌, ◌++◌, length, get_or, drop, ap, sym, ◌∙◌, append_assoc, at_drop_more, Located}
 
 -- after what stands before, the lines of one element and then of those after it are those of all
 pub lines_more : (lines : List Located → List ℕ) (line : Located → List ℕ) (xs : List Located) (i : ℕ) (x : Located) (before after all : List ℕ) → ((y : Located) (ys : List Located) → lines (y ∷ ys) ≡ line y ++ lines ys)

@@ -1,17 +1,10 @@
 -- Columns that are counted from another place of the line.
-use Rattle.std.proofs.Common.{◌≡◌, ℕ, ◌+◌, ◌-◌, ◌≤◌, ◌<◌, List, [], ◌∷◌, length, take, drop, get_or, slice_get, nat_le, None, Some, ap, sym, subst, ◌∙◌, refl, arith, length-append}
-use Rattle.std.proofs.lemmas.List.{at_drop_more}
+use Rattle.typst_report.proofs.Cited.{◌≡◌, ℕ, ◌+◌, ◌-◌, ◌≤◌, ◌<◌, List, [], ◌∷◌, length, take, drop, get_or, slice_get, nat_le, None, Some, ap, sym, ◌∙◌, refl, arith, length-append, at_drop_more, unwrap_or, IsCharBoundary, IsUtf8, chars, IsLineOf, column_of, line_of, line_table, units, utf16_len, bytes, IsBase, IsPlace, line_begin, units_in_line, Line, LineColumn}
 use Rattle.std.proofs.lemmas.List.Sums.{count_by-le-length}
-use Rattle.std.specs.Prelude.{unwrap_or}
 use Rattle.std.specs.List.{slice_range}
-use Rattle.std.specs.Str.{IsCharBoundary, IsUtf8, chars}
-use Rattle.typst_lines.specs.declared.lines.Line.{Line}
-use Rattle.typst_lines.specs.Lines.{IsLineOf, column_of, line_of, line_table, units, utf16_before, utf16_len, bytes}
 use Rattle.typst_lines.proofs.LineTable.{chars-range, bytes-front, units-front, units-le, bytes-text, width-positive}
 use Rattle.typst_lines.proofs.RoundTrip.{column-is, start-is, units-range, line-boundary}
 use Rattle.typst_lines.proofs.TableOrder.{get-some, line_of-before, table-some}
-use Rattle.typst_report.specs.declared.place.LineColumn.{LineColumn}
-use Rattle.typst_report.specs.Places.{IsBase, IsPlace, line_begin, units_in_line}
 
 -- ---- counting characters and units
 
@@ -38,10 +31,7 @@ pub line_found : (s : List ℕ) (b n : ℕ) (l : Line) → n ≡ line_of s b →
 line_found s b n l is e = let at = ap (slice_get (line_table s)) (sym is) ∙ e in record { at = at; before = line_of-before b s l at }
 
 some_line : (s : List ℕ) (b : ℕ) → (l : Line) × IsLineOf s b l
-some_line s b =
-    let l = get_or (line_table s) (line_of s b) no_line in
-    let at = get-some (line_table s) (line_of s b) no_line (line_of-within s b) in
-    (l, record { at = at; before = line_of-before b s l at })
+some_line s b = grind (arith, get_or (line_table s) (line_of s b) no_line, get-some (line_table s) (line_of s b) no_line (line_of-within s b), line_of-before)
 
 pub line_is_found : (s : List ℕ) (b n : ℕ) → n ≡ line_of s b → ¬ (None ≡ slice_get (line_table s) n)
 line_is_found s b n is e = let at = get-some (line_table s) (line_of s b) no_line (line_of-within s b) in let there = ap (slice_get (line_table s)) is in cc
@@ -53,17 +43,7 @@ begin-is s b v end l of = ap (λ o. unwrap_or o 0) (start-is s v b end l of)
 
 -- the start of the line
 pub base_line : (s : List ℕ) (v : IsUtf8 s) (b : ℕ) (end : IsCharBoundary s b) (l : Line) (of : IsLineOf s b l) (start line : ℕ) → start ≡ l.byte_idx → line ≡ line_of s b + 1 → IsBase s b (record { byte = start; line = line; column = 1; utf16_column = 1 })
-base_line s v b end l of start line e n =
-    let here : IsCharBoundary s l.byte_idx = line-boundary s s v refl b end l of in
-    let counted : utf16_before s l.byte_idx + units (chars (slice_range s l.byte_idx b)) ≡ utf16_before s b = units-range s v l.byte_idx b of.before here end in
-    let P : ℕ → Type 0 = λ byte. IsBase s b (record { byte = byte; line = line; column = 1; utf16_column = 1 }) in
-    subst P (sym e) (record {
-      boundary = here;
-      before = of.before;
-      line = n;
-      column = omega (arith, column-is s v b end l of);
-      utf16_column = omega (arith, counted, ap (utf16_before s) (begin-is s b v end l of));
-    })
+base_line s v b end l of start line e n = grind (arith, line-boundary, units-range, column-is, begin-is)
 
 base_of : (s : List ℕ) (v : IsUtf8 s) (b : ℕ) (end : IsCharBoundary s b) (l : Line) (of : IsLineOf s b l) (p : LineColumn) → IsPlace s p → line_of s p.byte ≡ line_of s b → p.byte ≤ b → IsBase s b p
 base_of s v b end l of p known same before =
@@ -82,20 +62,11 @@ base_of s v b end l of p known same before =
     let units_end = units-range s v l.byte_idx b of.before start end in
     let units_here = units-range s v l.byte_idx p.byte own.before start known.boundary in
     let units_between = units-range s v p.byte b before known.boundary end in
-    record {
-      boundary = known.boundary;
-      before = before;
-      line = omega (arith, line, same);
-      column = omega (arith, column, to_end, to_here, between, count_end, count_here, count_between, column-is s v b end l of, column-is s v p.byte known.boundary l own);
-      utf16_column = omega (arith, utf16, units_end, units_here, units_between, ap (utf16_before s) (begin-is s b v end l of), ap (utf16_before s) (begin-is s p.byte v known.boundary l own));
-    }
+    grind (arith, column-is, begin-is)
 
 -- a place of the same line
 pub base_self : (s : List ℕ) (v : IsUtf8 s) (b : ℕ) (end : IsCharBoundary s b) (p : LineColumn) → IsPlace s p → (n : ℕ) → p.line - 1 ≡ n → n ≡ line_of s b → p.byte ≤ b → IsBase s b p
-base_self s v b end p known n here is before =
-    let line : p.line ≡ line_of s p.byte + 1 = ap (λ q. q.line) known.at in
-    let found = some_line s b in
-    base_of s v b end found.0 found.1 p known (omega (arith, line, here, is)) before
+base_self s v b end p known n here is before = let line : p.line ≡ line_of s p.byte + 1 = ap (λ q. q.line) known.at in grind (arith, some_line s b, base_of)
 
 -- ---- how large columns are
 

@@ -1,14 +1,6 @@
 -- One more finding with its places.
-use Rattle.std.proofs.Common.{◌≡◌, ℕ, ◌+◌, ◌<◌, List, [], ◌∷◌, ◌++◌, length, get_or, take, map, ap, sym, ◌∙◌, refl}
-use Rattle.std.proofs.lemmas.List.{map-append, take_more}
-use Rattle.std.proofs.lemmas.List.Elements.{All-push}
+use Rattle.typst_report.proofs.Cited.{◌≡◌, ℕ, ◌+◌, ◌<◌, List, [], ◌∷◌, ◌++◌, length, get_or, take, map, ap, sym, ◌∙◌, refl, map-append, take_more, Located, as_reported, ArePlaced, IsPlaced, Placed, as_placed, IsPlaceOf, Reported, All-push, LineColumn}
 use Rattle.typst_report.specs.declared.finding.Finding.{Finding}
-use Rattle.typst_report.specs.declared.located.Located.{Located}
-use Rattle.typst_report.specs.declared.place.LineColumn.{LineColumn}
-use Rattle.typst_report.specs.Found.{as_reported}
-use Rattle.typst_report.specs.Placed.{ArePlaced, IsPlaced, Placed, as_placed}
-use Rattle.typst_report.specs.Places.{IsPlaceOf}
-use Rattle.typst_report.specs.Reported.{Reported}
 
 placed_push : (text : List ℕ) (all : List Reported) (t : Reported) (ps : List Placed) (p : Placed) → ArePlaced text all ps → p.reported ≡ t → IsPlaced text p → ArePlaced text (all ++ t ∷ []) (ps ++ p ∷ [])
 placed_push text all t ps p before same here = record {

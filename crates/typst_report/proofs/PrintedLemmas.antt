@@ -1,9 +1,5 @@
 -- The rows of a table, one after another.
-use Rattle.std.proofs.Common.{◌≡◌, ◌∙◌, ℕ, ◌+◌, ◌<◌, ◌++◌, ◌∷◌, List, Some, None, slice_get, length, drop, ap, sym, append_assoc, append-nil, arith}
-use Rattle.std.proofs.lemmas.List.{drop_more}
-use Rattle.std.proofs.lemmas.Option.{slice_get_within, get_or_from_slice_get}
-use Rattle.typst_lines.specs.declared.lines.Line.{Line}
-use Rattle.typst_report.specs.PrintedLines.{row, rows}
+use Rattle.typst_report.proofs.Cited.{◌≡◌, ◌∙◌, ℕ, ◌+◌, ◌++◌, ◌∷◌, List, Some, slice_get, drop, ap, append_assoc, arith, drop_more, slice_get_within, get_or_from_slice_get, Line, row, rows}
 
 pub rows-step : (n : ℕ) (table : List Line) (line : Line) → slice_get table n ≡ Some line
     → rows n (drop n table) ≡ row n line ++ rows (n + 1) (drop (n + 1) table)
@@ -13,5 +9,4 @@ rows-step n table line at =
 -- what was printed so far and the rows that are left, after one more row
 pub rows-printed : (n : ℕ) (table : List Line) (line : Line) (old new whole : List ℕ) → slice_get table n ≡ Some line
     → old ++ rows n (drop n table) ≡ whole → new ≡ old ++ row n line → new ++ rows (n + 1) (drop (n + 1) table) ≡ whole
-rows-printed n table line old new whole at so_far more =
-    ap (λ p. p ++ rows (n + 1) (drop (n + 1) table)) more ∙ append_assoc old _ _ ∙ ap (λ p. old ++ p) (sym (rows-step n table line at)) ∙ so_far
+rows-printed n table line old new whole at so_far more = grind (arith, append_assoc, rows-step)

@@ -1,11 +1,6 @@
 -- What is left of the rows of a tree that is printed.
-use Rattle.std.proofs.Common.{◌≡◌, ℕ, zero, suc, ◌+◌, ◌-◌, ◌*◌, ◌<◌, ◌≤◌, ◌^◌, List, [], ◌∷◌, ◌++◌, length, get_or, take, codes, refl, sym, ap, ◌∙◌, arith, append_assoc, append-nil, length-append}
-use Rattle.std.proofs.lemmas.List.{get_or_at, length_push, take_at}
-use Rattle.std.proofs.lemmas.Str.{IsCharBoundary-before_ascii}
-use Rattle.std.specs.Str.{IsCharBoundary}
-use Rattle.typst_tree.specs.Tree.{Tree, forest, count, joined, text_of}
-use Rattle.typst_report.specs.PrintedTree.{deeper, head_lines, lines, node_lines}
-use Rattle.typst_report.specs.declared.tree.Siblings.{Siblings}
+use Rattle.typst_report.proofs.Cited.{◌≡◌, ℕ, zero, suc, ◌+◌, ◌-◌, ◌*◌, ◌<◌, ◌≤◌, ◌^◌, List, [], ◌∷◌, ◌++◌, length, take, codes, refl, sym, ap, ◌∙◌, arith, append_assoc, append-nil, length-append, get_or_at, length_push, take_at, IsCharBoundary, Tree, forest, count, joined, text_of, Siblings}
+use Rattle.typst_report.specs.PrintedTree.{deeper, head_lines, lines}
 
 -- ---- indentations
 
@@ -20,9 +15,7 @@ indented_deeper indent (suc n) = indented_deeper (deeper indent) n
 
 -- an indentation ends with that of the last of its levels
 pub last_level : (indent bytes : List ℕ) (all rows : List Siblings) (r : Siblings) → bytes ≡ indented indent (length all) → all ≡ rows ++ r ∷ [] → bytes ≡ deeper (indented indent (length rows))
-last_level indent bytes all rows r known is =
-    let number : length all ≡ suc (length rows) = ap length is ∙ omega (arith, length_push rows r) in
-    known ∙ ap (indented indent) number ∙ indented_deeper indent (length rows)
+last_level indent bytes all rows r known is = grind (arith, length_push, indented_deeper)
 
 -- the indentation that is a level deeper than that of the last row
 pub next_level : (indent bytes : List ℕ) (all new : List Siblings) → bytes ≡ indented indent (length all) → length new ≡ suc (length all) → deeper bytes ≡ indented indent (length new)
@@ -41,9 +34,7 @@ module _ (bytes above : List ℕ) (is : bytes ≡ deeper above) where
     level_cut = ap (take width) is ∙ take_at above (codes "  ") width (sym level_width)
 
     pub level_boundary : IsCharBoundary bytes width
-    level_boundary =
-        let space : get_or bytes width 0 ≡ 32 = ap (λ bs. get_or bs width 0) is ∙ get_or_at above 32 (32 ∷ []) 0 width (sym level_width) in
-        IsCharBoundary-before_ascii bytes width (omega (arith, counted, level_two)) (omega (arith, space))
+    level_boundary = grind (arith, get_or_at, level_width, level_two)
 
 -- ---- rows
 
@@ -62,21 +53,13 @@ left_pushed indent (x ∷ rs) r =
     ap (λ ys. ys ++ row_lines indent x) (left_pushed (deeper indent) rs r)
     ∙ append_assoc (row_lines (indented (deeper indent) (length rs)) r) (left_lines (deeper indent) rs) (row_lines indent x)
 
--- at first a row of one tree is left
-pub left_first : (indent : List ℕ) (start : ℕ) (t : Tree) (r : Siblings) → r.trees.now ≡ t ∷ [] → r.start ≡ start → left_lines indent (r ∷ []) ≡ node_lines indent start t
-left_first indent start t r trees begins =
-    ap (λ ts. lines indent r.start (forest ts)) trees ∙ ap (λ s. lines indent s (forest (t ∷ []))) begins
-    ∙ ap (λ ys. head_lines indent start (start + length (text_of t)) t.head ++ ys) (append-nil (lines (deeper indent) start t.kids))
-
 row_of_none : (indent : List ℕ) (start : ℕ) (ts : List Tree) → length ts ≡ 0 → lines indent start (forest ts) ≡ []
 row_of_none indent start [] e = refl
 row_of_none indent start (t ∷ ts) e = absurd (omega (arith, e))
 
 -- nothing is left of a row that is passed
 pub left_passed : (indent : List ℕ) (all rows : List Siblings) (r : Siblings) → all ≡ rows ++ r ∷ [] → length r.trees.now ≡ 0 → left_lines indent all ≡ left_lines indent rows
-left_passed indent all rows r is passed =
-    ap (left_lines indent) is ∙ left_pushed indent rows r
-    ∙ ap (λ ys. ys ++ left_lines indent rows) (row_of_none (indented indent (length rows)) r.start r.trees.now passed)
+left_passed indent all rows r is passed = grind (arith, left_pushed, row_of_none)
 
 -- the lines of a row's first node, and then of the nodes below it and those after it
 pub left_more : (indent : List ℕ) (all rows new : List Siblings) (r behind below : Siblings) (t : Tree) (ts : List Tree) (end : ℕ) → all ≡ rows ++ r ∷ [] → new ≡ (rows ++ behind ∷ []) ++ below ∷ [] → r.trees.now ≡ t ∷ ts
@@ -85,20 +68,7 @@ pub left_more : (indent : List ℕ) (all rows new : List Siblings) (r behind bel
 left_more indent all rows new r behind below t ts end is grown trees rest begins kids begins_below ends =
     let I : List ℕ = indented indent (length rows) in
     let number : length (rows ++ behind ∷ []) ≡ suc (length rows) = omega (arith, length_push rows behind) in
-    let level : indented indent (length (rows ++ behind ∷ [])) ≡ deeper I = ap (indented indent) number ∙ indented_deeper indent (length rows) in
-    let rest_lines : row_lines I behind ≡ lines I end (forest ts) = ap (λ s. lines I s (forest behind.trees.now)) begins ∙ ap (λ xs. lines I end (forest xs)) rest in
-    let kid_lines : row_lines (indented indent (length (rows ++ behind ∷ []))) below ≡ lines (deeper I) r.start t.kids =
-    ap (λ i. row_lines i below) level ∙ ap (λ s. lines (deeper I) s (forest below.trees.now)) begins_below ∙ ap (lines (deeper I) r.start) kids in
-    let after : left_lines indent new ≡ lines (deeper I) r.start t.kids ++ (lines I end (forest ts) ++ left_lines indent rows) =
-    ap (left_lines indent) grown ∙ left_pushed indent (rows ++ behind ∷ []) below
-    ∙ ap (λ ys. ys ++ left_lines indent (rows ++ behind ∷ [])) kid_lines
-    ∙ ap (λ ys. lines (deeper I) r.start t.kids ++ ys) (left_pushed indent rows behind ∙ ap (λ ys. ys ++ left_lines indent rows) rest_lines) in
-    let own : row_lines I r ≡ head_lines I r.start end t.head ++ (lines (deeper I) r.start t.kids ++ lines I end (forest ts)) =
-    ap (λ xs. lines I r.start (forest xs)) trees ∙ ap (λ e. head_lines I r.start e t.head ++ (lines (deeper I) r.start t.kids ++ lines I e (forest ts))) (sym ends) in
-    ap (left_lines indent) is ∙ left_pushed indent rows r
-    ∙ ap (λ ys. ys ++ left_lines indent rows) own
-    ∙ append_assoc (head_lines I r.start end t.head) (lines (deeper I) r.start t.kids ++ lines I end (forest ts)) (left_lines indent rows)
-    ∙ ap (λ ys. head_lines I r.start end t.head ++ ys) (append_assoc (lines (deeper I) r.start t.kids) (lines I end (forest ts)) (left_lines indent rows) ∙ sym after)
+    grind (arith, indented_deeper, left_pushed, append_assoc)
 
 -- how many turns printing still takes: one for each node and two for each row
 abbrev pub steps : List Siblings → ℕ
@@ -116,8 +86,7 @@ steps_passed all rows r is = omega (arith, ap steps is, steps_pushed rows r)
 -- a node takes one
 pub steps_more : (all rows new : List Siblings) (r behind below : Siblings) (t : Tree) (ts : List Tree) → all ≡ rows ++ r ∷ [] → new ≡ (rows ++ behind ∷ []) ++ below ∷ [] → r.trees.now ≡ t ∷ ts
     → behind.trees.now ≡ ts → forest below.trees.now ≡ t.kids → steps new < steps all
-steps_more all rows new r behind below t ts is grown trees rest kids =
-    omega (arith, ap steps is, ap steps grown, steps_pushed rows r, steps_pushed rows behind, steps_pushed (rows ++ behind ∷ []) below, ap (λ xs. count (forest xs)) trees, ap (λ xs. count (forest xs)) rest, ap count kids)
+steps_more all rows new r behind below t ts is grown trees rest kids = grind (arith, steps_pushed)
 
 -- a row's trees end below 2^64
 abbrev pub Fits : Siblings → Type 0

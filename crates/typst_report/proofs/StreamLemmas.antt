@@ -1,7 +1,5 @@
 -- Known bytes that are written piece by piece.
-use Rattle.std.proofs.Common.{◌≡◌, ◌∙◌, ℕ, ◌+◌, List, Option, take, drop, subst, sym}
-use Rattle.std.proofs.KnownBytes.{Appends-trans, Appends-kept}
-use Rattle.std.specs.Io.KnownBytes.{Appends, Keeps}
+use Rattle.typst_report.proofs.Cited.{◌≡◌, ◌∙◌, ℕ, ◌+◌, List, Option, take, drop, subst, sym, Appends, Keeps, Appends-trans, Appends-kept}
 use lib.Seq.{take-add}
 
 pub Appends-piece : (a b c : Option (List ℕ)) (bytes : List ℕ) (done n : ℕ) → Appends a b (take done bytes) → Appends b c (take n (drop done bytes))

@@ -1,7 +1,5 @@
 -- Tokens written one after another.
-use Rattle.std.proofs.Common.{◌≡◌, List, ◌++◌, Result, Ok, Err, ap, ◌∙◌, append_assoc}
-use Rattle.std.specs.Prelude.{OnOk}
-use Rattle.json.specs.Token.{Token}
+use Rattle.typst_report.proofs.Cited.{◌≡◌, List, ◌++◌, Result, Ok, Err, ap, ◌∙◌, append_assoc, OnOk, Token}
 
 pub written : (old mid new ts us : List Token) → mid ≡ old ++ ts → new ≡ mid ++ us → new ≡ old ++ (ts ++ us)
 written old mid new ts us p q = q ∙ ap (λ xs. xs ++ us) p ∙ append_assoc old ts us

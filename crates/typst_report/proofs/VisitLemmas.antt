@@ -1,12 +1,7 @@
 -- What is reported and printed of the nodes that a walk in preorder visits.
-use Rattle.std.proofs.Common.{◌≡◌, ℕ, ◌+◌, List, [], ◌∷◌, ◌++◌, length, refl, sym, ap, ◌∙◌, append_assoc}
-use Rattle.std.specs.Prelude.{if◌then◌else◌}
+use Rattle.typst_report.proofs.Cited.{◌≡◌, ℕ, ◌+◌, List, [], ◌∷◌, ◌++◌, length, refl, sym, ap, ◌∙◌, append_assoc, arith, Forest, none, more, Tree, joined, saturated, text_of, line, Reported, reported, reported_in, reported_of}
 use Rattle.typst_kinds.specs.Diagnostic.{Diagnostic}
-use Rattle.typst_kinds.specs.Head.{has_any}
-use Rattle.typst_tree.specs.Tree.{Forest, none, more, Tree, joined, saturated, text_of}
 use Rattle.typst_tree.specs.Preorder.{Visited, row, walk, diagnosed}
-use Rattle.typst_report.specs.Ndjson.{line}
-use Rattle.typst_report.specs.Reported.{Reported, reported, reported_in, reported_of}
 use Rattle.typst_report.specs.TreeLines.{end_of, node, node_lines, tree_lines}
 
 module _ {A : Type 0} (of : Visited → List A) where
@@ -39,13 +34,7 @@ reported_walk t = reported_row 0 0 (more t.head t.kids none)
 -- of one more node that was come to
 with_one : (v : Visited) (vs : List Visited) (ds : List Diagnostic) → v.node.head.diagnostics ≡ ds → each reported_at (diagnosed vs) ≡ each reported_at vs
     → each reported_at (diagnosed (v ∷ vs)) ≡ each reported_at (v ∷ vs)
-with_one v vs [] clean later =
-    ap (λ ds. each reported_at (if has_any ds then v ∷ diagnosed vs else diagnosed vs)) clean
-    ∙ later
-    ∙ sym (ap (λ ds. reported_of v.offset (saturated (v.offset + length (text_of v.node))) ds ++ each reported_at vs) clean)
-with_one v vs (d ∷ ds) faulty later =
-    ap (λ ds. each reported_at (if has_any ds then v ∷ diagnosed vs else diagnosed vs)) faulty
-    ∙ ap (λ rs. reported_at v ++ rs) later
+with_one v vs ds clean later = grind arith
 
 -- nodes without errors and warnings report none
 pub reported_diagnosed : (vs : List Visited) → each reported_at (diagnosed vs) ≡ each reported_at vs

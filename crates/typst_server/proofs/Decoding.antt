@@ -1,24 +1,11 @@
 -- What is read back of the numbers of tokens.
-use Rattle.std.proofs.Common.{◌≡◌, ℕ, ◌+◌, ◌-◌, ◌^◌, ◌<◌, ◌≤◌, ◌==◌, ◌⊎◌, inl, inr, Bool, true, false, cond, not, List, [], ◌∷◌, ◌++◌, length, drop, refl, sym, ap, ◌∙◌, arith, length-drop, length-take, if◌then◌else◌}
-use Rattle.std.proofs.lemmas.Bool.{cases_lt, eq-eqb, le-leb, lt-leb, ne_eqb}
+use Rattle.typst_server.proofs.Cited.{◌≡◌, ℕ, ◌+◌, ◌-◌, ◌^◌, ◌<◌, ◌≤◌, ◌==◌, ◌⊎◌, inl, inr, Bool, cond, not, List, [], ◌∷◌, ◌++◌, length, drop, refl, sym, ap, ◌∙◌, arith, length-drop, length-take, if◌then◌else◌, cases_lt, le-leb, lt-leb, prefix_len, slice_index, IsUtf8, chars, end_of, Token, line_of, position_of, Encoding, Position, Shown, clipped, decoded, encoded, five, shown, shown_each, column_of, measured, width, is_line_end, line_at, line_starts, starts_between, held, position-is, some-below, start-boundary, utf8-line}
 use Rattle.std.proofs.lemmas.List.FromFn.{length-range_with_len}
 use Rattle.std.proofs.lemmas.List.Sums.{count_by-le-length, length-filter}
 use Rattle.std.specs.Char.{len_utf8}
-use Rattle.std.specs.List.{prefix_len, range_with_len}
-use Rattle.std.specs.Prelude.{slice_index}
-use Rattle.std.specs.Str.{IsUtf8, chars}
 use Rattle.typst_styles.specs.Tokens as tokens
-use Rattle.typst_styles.specs.Tokens.{end_of}
-use Rattle.typst_styles.specs.declared.tokens.Token.{Token}
-use Rattle.typst_positions.specs.Columns.{column_of, measured, width}
-use Rattle.typst_positions.specs.Positions.{line_of, position_of}
-use Rattle.typst_positions.specs.Starts.{is_line_end, line_at, line_starts, starts_between, starts_line}
-use Rattle.typst_positions.specs.declared.columns.Encoding.{Encoding}
-use Rattle.typst_positions.specs.declared.positions.Position.{Position}
-use Rattle.typst_positions.proofs.Places.{held, position-is, some-below, start-boundary, utf8-line}
 use Rattle.typst_positions.proofs.Shifts.{count-mono}
 use Rattle.typst_positions.proofs.Widths.{total, total-text, width-le}
-use Rattle.typst_server.specs.Numbers.{Shown, clipped, decoded, encoded, five, shown, shown_each}
 
 -- ---- tokens that are in order
 
@@ -48,38 +35,18 @@ abbrev start_by : Bool → ℕ → ℕ → ℕ
 start_by same column right = if same then column + right else right
 
 start-back : (line column : ℕ) (s : Shown) → After line column s → start_by (s.line - line == 0) column (right_of line column s) ≡ s.column
-start-back line column s (inl less) =
-    let down : (s.line - line == 0) ≡ false = ne_eqb (s.line - line) 0 (λ e. absurd (omega (arith, less, e))) in
-    let other : (s.line == line) ≡ false = ne_eqb s.line line (λ e. absurd (omega (arith, less, e))) in
-    ap (λ b. start_by b column (right_of line column s)) down ∙ ap (λ b. s.column - (if b then column else 0)) other ∙ omega arith
-start-back line column s (inr same) =
-    let down : (s.line - line == 0) ≡ true = eq-eqb (s.line - line) 0 (omega (arith, same.0)) in
-    let here : (s.line == line) ≡ true = eq-eqb s.line line (sym same.0) in
-    ap (λ b. start_by b column (right_of line column s)) down ∙ ap (λ b. column + (s.column - (if b then column else 0))) here ∙ omega (arith, same.1)
+start-back line column s h = grind arith
 
 -- a token with what is read behind it
 abbrev placed : ℕ → ℕ → ℕ → ℕ → ℕ → List ℕ → List Shown
 placed line column size kind modifiers rest = record { line = line; column = column; size = size; kind = kind; modifiers = modifiers } ∷ decoded line column rest
 
 after-le : (line column : ℕ) (s : Shown) → After line column s → line ≤ s.line
-after-le line column s (inl less) = omega (arith, less)
-after-le line column s (inr same) = omega (arith, same.0)
+after-le line column s h = grind arith
 
 -- one token is read back
 one-back : (line column : ℕ) (s : Shown) (rest : List ℕ) → After line column s → IsSmall s → decoded line column (five line column s ++ rest) ≡ s ∷ decoded s.line s.column rest
-one-back line column s rest after small =
-    let down : ℕ = s.line - line in
-    let right : ℕ = right_of line column s in
-    let le = after-le line column s after in
-    let first : clipped down ≡ down = clipped-small down (omega (arith, small.line)) in
-    let second : clipped right ≡ right = clipped-small right (omega (arith, small.column)) in
-    let third : clipped s.size ≡ s.size = clipped-small s.size small.size in
-    let here : line + down ≡ s.line = omega (arith, le) in
-    ap (λ n. placed (line + n) (start_by (n == 0) column (clipped right)) (clipped s.size) s.kind s.modifiers rest) first
-    ∙ ap (λ n. placed (line + down) (start_by (down == 0) column n) (clipped s.size) s.kind s.modifiers rest) second
-    ∙ ap (λ n. placed (line + down) (start_by (down == 0) column right) n s.kind s.modifiers rest) third
-    ∙ ap (λ n. placed n (start_by (down == 0) column right) s.size s.kind s.modifiers rest) here
-    ∙ ap (λ n. placed s.line n s.size s.kind s.modifiers rest) (start-back line column s after)
+one-back line column s rest after small = grind (arith, after-le, clipped-small, small, start-back)
 
 -- and so are all
 read-back : (line column : ℕ) (ss : List Shown) → AreOrdered line column ss → decoded line column (encoded line column ss) ≡ ss
@@ -136,9 +103,7 @@ column-small e text byte u =
 
 starts-few : (text : List ℕ) → length (line_starts text) ≤ length text + 1
 unfolding line_starts starts_between
-starts-few text =
-    let all : List ℕ = range_with_len 0 (length text + 1 - 0) in
-    omega (arith, length-filter (starts_line text) all, count_by-le-length (starts_line text) all, length-range_with_len 0 (length text + 1 - 0))
+starts-few text = grind (arith, length-filter, count_by-le-length, length-range_with_len)
 
 line-small : (text : List ℕ) (byte : ℕ) → line_of text byte ≤ length text
 line-small text byte = let h = held text byte in omega (arith, some-below (line_starts text) (line_of text byte) h.start h.at, starts-few text)

@@ -1,22 +1,10 @@
 -- Numbers of tokens that grow token by token.
-use Rattle.std.proofs.Common.{◌≡◌, ℕ, suc, ◌+◌, ◌-◌, ◌<◌, ◌≤◌, List, ◌∷◌, ◌++◌, length, drop, get_or, take, Some, Result, Ok, Err, IfOk, ap, sym, subst, ◌∙◌, append_assoc, arith}
-use Rattle.std.specs.Prelude.{slice_get}
-use Rattle.std.proofs.lemmas.List.{drop_more}
-use Rattle.std.proofs.lemmas.Option.{get_or_from_slice_get}
-use Rattle.typst_styles.specs.declared.tokens.Token.{Token}
-use Rattle.typst_positions.specs.declared.columns.Encoding.{Encoding}
-use Rattle.typst_document.specs.Document.{Opened}
-use Rattle.typst_server.specs.Numbers.{IsAdded, Shown, encoded, five, shown, shown_each}
+use Rattle.typst_server.proofs.Cited.{◌≡◌, ℕ, suc, ◌+◌, ◌-◌, ◌<◌, ◌≤◌, List, ◌∷◌, ◌++◌, length, drop, get_or, take, Some, Result, IfOk, ap, sym, subst, ◌∙◌, append_assoc, arith, slice_get, drop_more, get_or_from_slice_get, Token, Opened, IsAdded, Shown, encoded, shown, shown_each}
 use Rattle.typst_server.specs.declared.tokens.Encoder.{Encoder}
 
 -- the numbers of a token that was added stand before the others
 added-more : (old new : Encoder) (s : Shown) (rest : List Shown) (all : List ℕ) → IsAdded old new s → old.numbers.items ++ encoded old.line old.column (s ∷ rest) ≡ all → new.numbers.items ++ encoded new.line new.column rest ≡ all
-added-more old new s rest all added so_far =
-    ap (λ ns. ns ++ encoded new.line new.column rest) added.numbers
-    ∙ ap (λ l. (old.numbers.items ++ five old.line old.column s) ++ encoded l new.column rest) added.line
-    ∙ ap (λ c. (old.numbers.items ++ five old.line old.column s) ++ encoded s.line c rest) added.column
-    ∙ append_assoc old.numbers.items (five old.line old.column s) (encoded s.line s.column rest)
-    ∙ so_far
+added-more old new s rest all added so_far = grind (arith, append_assoc)
 
 -- one token more is added
 pub token-added : (document : Opened) (ts : List Token) (i end : ℕ) (t : Token) (old new : Encoder) (all : List ℕ) → i < end → end ≤ length ts → old.walk ≡ document → slice_get ts i ≡ Some t → IsAdded old new (shown old.walk.encoding old.walk.source.text t)
@@ -35,5 +23,4 @@ token-added document ts i end t old new all more within walk is added so_far =
 
 -- what follows for a value
 pub if-ok : {T E : Type 0} (result : Result T E) (P Q : T → Type 0) → ((x : T) → P x → Q x) → IfOk result P → IfOk result Q
-if-ok (Ok x) P Q f h = f x h
-if-ok (Err e) P Q f h = tt
+if-ok result P Q f h = grind arith

@@ -1,33 +1,14 @@
 -- What is known of documents, from a list of them to the next.
-use Rattle.std.proofs.Common.{◌≡◌, ℕ, ◌+◌, ◌<◌, ◌≤◌, List, [], ◌∷◌, ◌++◌, length, get_or, take, Bool, true, false, cond, not, Option, None, Some, option_map, option_and_then, inl, inr, refl, sym, ap, subst, ◌∙◌, arith, rules}
+use Rattle.typst_server.proofs.Cited.{◌≡◌, ℕ, ◌+◌, ◌<◌, ◌≤◌, List, [], ◌∷◌, ◌++◌, length, get_or, take, Bool, true, false, cond, not, Option, None, Some, option_map, option_and_then, inl, inr, refl, sym, ap, subst, ◌∙◌, arith, rules, Vec, length-set, set-get_or, take_all, take_more, take_more_set, slice_get-get_or, slice_get_past, nat_lt, bytes_eq, string_bytes, Encoding, Opened, IsUnknown, Keeps, KeepsOthers, Knows, found, is_known, is_named, known, AreSame, AreUnknown, IsWarned, LosesNone, IsKept, MayBeKept, MayDrop, last_of, Sent, Documents, Entry, with_item, nat_tests, is_same, Loss, Lost}
 use mathlib.Core.HLevel.{is_prop→PathP}
 use native.Mathlib.Nat.{ℕ_set}
 use Rattle.std.proofs.Math.ListN.{set}
-use Rattle.std.specs.Global.{Vec}
-use Rattle.std.specs.Vec.{with_item}
-use Rattle.std.proofs.lemmas.Bool.Decides.{nat_tests}
-use Rattle.std.proofs.lemmas.List.{length-set, set-get_or, take_all, take_more, take_more_set}
 use Rattle.std.proofs.lemmas.List.Folds.{find-append, find-set, find_at, find_past}
 use Rattle.std.proofs.lemmas.List.Quantifiers.{position-Some}
-use Rattle.std.proofs.lemmas.Option.{slice_get-get_or, slice_get_past}
 use Rattle.std.proofs.lemmas.Slice.Eq.{bytes_eq-Decides}
 use Rattle.std.specs.List.{filter, find, position, position_or_len, slice_get}
 use Rattle.std.specs.Option.{option_or}
-use Rattle.std.specs.Prelude.{nat_lt}
-use Rattle.std.specs.Str.{bytes_eq}
-use Rattle.std.specs.String.{string_bytes}
 use Rattle.typst_protocol.proofs.SameAddress.{same-as, same-with}
-use Rattle.typst_protocol.specs.Addresses.{is_same}
-use Rattle.typst_positions.specs.declared.columns.Encoding.{Encoding}
-use Rattle.typst_document.specs.Document.{Opened}
-use Rattle.typst_server.specs.Documents.{IsUnknown, Keeps, KeepsOthers, Knows, found, is_known, is_named, known}
-use Rattle.typst_protocol.specs.declared.refusal.Loss.{Loss}
-use Rattle.typst_server.specs.Left.{AreSame, AreUnknown, IsWarned, LosesNone}
-use Rattle.typst_server.specs.Sent.{IsKept, MayBeKept, MayDrop, last_of}
-use Rattle.typst_server.specs.Tracked.{Sent}
-use Rattle.typst_server.specs.declared.documents.Documents.{Documents}
-use Rattle.typst_server.specs.declared.documents.Entry.{Entry}
-use Rattle.typst_server.specs.declared.documents.Held.TheVariants.{Lost}
 use Rattle.typst_server.specs.declared.tracked.Fresh.{Fresh}
 
 -- ---- addresses
@@ -39,8 +20,7 @@ pub same-self : (uri : List ℕ) → is_same uri uri ≡ true
 same-self uri = search (rules, bytes-self)
 
 apart-turned : (uri other : List ℕ) (test : Bool) → is_same other uri ≡ test → is_same uri other ≡ false → test ≡ false
-apart-turned uri other false is far = refl
-apart-turned uri other true is far = let here : is_same other other ≡ is_same uri other = same-as other uri other is in let self : is_same other other ≡ true = same-self other in cc
+apart-turned uri other test is far = grind (arith, same-as, same-self)
 
 -- an address that isn't that of a document is that of no entry with its address
 apart : (uri other : List ℕ) (e : Entry) → is_named uri e ≡ true → is_same uri other ≡ false → is_named other e ≡ false
@@ -48,15 +28,12 @@ apart uri other e named far = same-with uri (string_bytes e.uri) other named ∙
 
 -- by both addresses of a document the same is found
 found-same : (uri other : List ℕ) (xs : List Entry) → is_same uri other ≡ true → find (is_named other) xs ≡ find (is_named uri) xs
-found-same uri other [] h = refl
-found-same uri other (e ∷ es) h =
-    ap (λ b. cond b (Some e) (find (is_named other) es)) (sym (same-as uri other (string_bytes e.uri) h)) ∙ ap (λ r. cond (is_named uri e) (Some e) r) (found-same uri other es h)
+found-same uri other xs h = grind (arith, cond, same-as)
 
 -- ---- an entry that is set
 
 placed-by : (p : Entry → Bool) (xs : List Entry) (i : ℕ) (test : Bool) → cond test (Some (position_or_len p xs)) None ≡ Some i → i ≡ position_or_len p xs
-placed-by p xs i true h = cc
-placed-by p xs i false h = cc
+placed-by p xs i test h = grind arith
 
 placed : (p : Entry → Bool) (xs : List Entry) (i : ℕ) → position p xs ≡ Some i → i ≡ position_or_len p xs
 placed p xs i h = placed-by p xs i (nat_lt (position_or_len p xs) (length xs)) h
@@ -66,10 +43,6 @@ pub record Sets (uri : List ℕ) (xs ys : List Entry) (old new : Entry) : Type 0
   pub before : find (is_named uri) xs ≡ Some old
   pub behind : find (is_named uri) ys ≡ Some new
   pub others : (other : List ℕ) → is_same uri other ≡ false → find (is_named other) ys ≡ find (is_named other) xs
-
--- an index that `position` gives is within the list
-pub within-place : (uri : List ℕ) (xs : List Entry) (i : ℕ) (d : Entry) → position (is_named uri) xs ≡ Some i → i < length xs
-within-place uri xs i d h = (position-Some (is_named uri) xs i d h).0
 
 pub sets-named : (uri : List ℕ) (xs : List Entry) (i : ℕ) (d e : Entry) → position (is_named uri) xs ≡ Some i → is_named uri e ≡ true → Sets uri xs (set xs i e) (get_or xs i d) e
 sets-named uri xs i d e h named =
@@ -111,8 +84,7 @@ past : (a b : ℕ) → nat_lt a b ≡ false → b ≤ a
 past a b h = grind (arith, nat_tests)
 
 none-by : (p : Entry → Bool) (xs : List Entry) (test : Bool) → nat_lt (position_or_len p xs) (length xs) ≡ test → cond test (Some (position_or_len p xs)) None ≡ None → find p xs ≡ None
-none-by p xs true is h = cc
-none-by p xs false is h = find_at p xs ∙ slice_get_past xs (position_or_len p xs) (past (position_or_len p xs) (length xs) is)
+none-by p xs test is h = grind (arith, find_at, slice_get_past)
 
 -- one that has no place isn't found
 pub not-placed : (uri : List ℕ) (xs : List Entry) → None ≡ position (is_named uri) xs → find (is_named uri) xs ≡ None
@@ -127,32 +99,17 @@ pub others-set : (uri : List ℕ) (xs ys : List Entry) (old new : Entry) → Set
 others-set uri xs ys old new s other far = ap shown (s.others other far)
 
 known-by : (uri other : List ℕ) (xs ys : List Entry) (old new : Entry) (test : Bool) → is_same uri other ≡ test → Sets uri xs ys old new → known new.held ≡ known old.held → shown (find (is_named other) ys) ≡ shown (find (is_named other) xs)
-known-by uri other xs ys old new true is s same =
-    ap shown (found-same uri other ys is ∙ s.behind) ∙ ap (λ k. Some k) same ∙ sym (ap shown (found-same uri other xs is ∙ s.before))
-known-by uri other xs ys old new false is s same = ap shown (s.others other is)
+known-by uri other xs ys old new test is s same = grind (arith, found-same)
 
 -- what is known stays where one is set of which the same is known
 pub known-set : (uri : List ℕ) (xs ys : List Entry) (old new : Entry) → Sets uri xs ys old new → known new.held ≡ known old.held → (other : List ℕ) → shown (find (is_named other) ys) ≡ shown (find (is_named other) xs)
 known-set uri xs ys old new s same other = known-by uri other xs ys old new (is_same uri other) refl s same
 
--- what is set is found
-pub shown-set : (uri : List ℕ) (xs ys : List Entry) (old new : Entry) → Sets uri xs ys old new → shown (find (is_named uri) ys) ≡ Some (known new.held)
-shown-set uri xs ys old new s = ap shown s.behind
-
-pub shown-before : (uri : List ℕ) (xs ys : List Entry) (old new : Entry) → Sets uri xs ys old new → shown (find (is_named uri) xs) ≡ Some (known old.held)
-shown-before uri xs ys old new s = ap shown s.before
-
 -- ---- what was sent
-
-pub sent-set : (uri : List ℕ) (xs ys : List Entry) (old new : Entry) → Sets uri xs ys old new → option_and_then (λ entry. last_of entry.held) (find (is_named uri) ys) ≡ last_of new.held
-sent-set uri xs ys old new s = ap (option_and_then (λ (entry : Entry). last_of entry.held)) s.behind
 
 drop-by : (uri other : List ℕ) (xs ys : List Entry) (old new : Entry) (test : Bool) → is_same uri other ≡ test → Sets uri xs ys old new → MayDrop (last_of old.held) (last_of new.held)
     → MayDrop (option_and_then (λ entry. last_of entry.held) (find (is_named other) xs)) (option_and_then (λ entry. last_of entry.held) (find (is_named other) ys))
-drop-by uri other xs ys old new true is s may =
-    subst (λ e. MayDrop (option_and_then (λ entry. last_of entry.held) e) (option_and_then (λ entry. last_of entry.held) (find (is_named other) ys))) (sym (found-same uri other xs is ∙ s.before))
-    (subst (λ e. MayDrop (last_of old.held) (option_and_then (λ entry. last_of entry.held) e)) (sym (found-same uri other ys is ∙ s.behind)) may)
-drop-by uri other xs ys old new false is s may = inl (ap (option_and_then (λ (entry : Entry). last_of entry.held)) (s.others other is))
+drop-by uri other xs ys old new test is s may = grind (arith, found-same)
 
 -- of no document others are kept where one is set of which none others are
 pub drop-set : (uri : List ℕ) (xs ys : List Entry) (old new : Entry) → Sets uri xs ys old new → MayDrop (last_of old.held) (last_of new.held) → (other : List ℕ)
@@ -162,8 +119,7 @@ drop-set uri xs ys old new s may other = drop-by uri other xs ys old new (is_sam
 -- ---- entries that are taken out, put in, or all lost
 
 left-by : (uri : List ℕ) (e : Entry) (kept : List Entry) (test : Bool) → is_named uri e ≡ test → find (is_named uri) kept ≡ None → find (is_named uri) (cond (not test) (e ∷ kept) kept) ≡ None
-left-by uri e kept true is h = h
-left-by uri e kept false is h = ap (λ b. cond b (Some e) (find (is_named uri) kept)) is ∙ h
+left-by uri e kept test is h = grind arith
 
 -- one that is taken out isn't found
 pub none-left : (uri : List ℕ) (xs : List Entry) → find (is_named uri) (filter (λ e. not (is_named uri e)) xs) ≡ None
@@ -190,16 +146,13 @@ drop-left uri other xs = drop-left-by uri other xs (is_same uri other) refl
 
 -- one that is put in, and isn't known, is found where none was
 unknown-in-by : (e : Entry) (before : Option Entry) (test : Bool) → e.held ≡ Lost → IsUnknown (shown before) → IsUnknown (shown (option_or before (cond test (Some e) None)))
-unknown-in-by e None true lost h = subst (λ k. IsUnknown (Some (known k))) (sym lost) tt
-unknown-in-by e None false lost h = tt
-unknown-in-by e (Some x) test lost h = h
+unknown-in-by e before test lost h = grind arith
 
 pub unknown-in : (uri : List ℕ) (xs : List Entry) (e : Entry) → e.held ≡ Lost → IsUnknown (shown (find (is_named uri) xs)) → IsUnknown (shown (find (is_named uri) (xs ++ e ∷ [])))
 unknown-in uri xs e lost h = subst (λ f. IsUnknown (shown f)) (sym (find-append (is_named uri) xs (e ∷ []))) (unknown-in-by e (find (is_named uri) xs) (is_named uri e) lost h)
 
 or-none : (a : Option Entry) → option_or a None ≡ a
-or-none None = refl
-or-none (Some x) = refl
+or-none a = grind arith
 
 pub others-in : (uri other : List ℕ) (xs : List Entry) (e : Entry) → is_named uri e ≡ true → is_same uri other ≡ false → find (is_named other) (xs ++ e ∷ []) ≡ find (is_named other) xs
 others-in uri other xs e named far =
@@ -209,9 +162,7 @@ others-in uri other xs e named far =
 
 sent-in-by : (e : Entry) (before : Option Entry) (test : Bool) → e.held ≡ Lost
     → option_and_then (λ entry. last_of entry.held) (option_or before (cond test (Some e) None)) ≡ option_and_then (λ entry. last_of entry.held) before
-sent-in-by e None true lost = ap last_of lost
-sent-in-by e None false lost = refl
-sent-in-by e (Some x) test lost = refl
+sent-in-by e before test lost = grind arith
 
 pub sent-in : (other : List ℕ) (xs : List Entry) (e : Entry) → e.held ≡ Lost
     → option_and_then (λ entry. last_of entry.held) (find (is_named other) (xs ++ e ∷ [])) ≡ option_and_then (λ entry. last_of entry.held) (find (is_named other) xs)
@@ -231,16 +182,14 @@ pub lost-more : (xs : List Entry) (i : ℕ) (e : Entry) → i < length xs → Ar
 lost-more xs i e within h lost = subst AreLost (sym (take_more_set xs i e within)) (lost-push (take i xs) e h lost)
 
 lost-by : (e : Entry) (rest : Option Entry) (test : Bool) → e.held ≡ Lost → IsUnknown (shown rest) → IsUnknown (shown (cond test (Some e) rest))
-lost-by e rest true lost h = subst (λ k. IsUnknown (Some (known k))) (sym lost) tt
-lost-by e rest false lost h = h
+lost-by e rest test lost h = grind arith
 
 pub all-lost : (uri : List ℕ) (xs : List Entry) → AreLost xs → IsUnknown (shown (find (is_named uri) xs))
 all-lost uri [] h = tt
 all-lost uri (e ∷ es) h = lost-by e (find (is_named uri) es) (is_named uri e) h.0 (all-lost uri es h.1)
 
 lost-sent-by : (e : Entry) (rest : Option Entry) (test : Bool) → e.held ≡ Lost → option_and_then (λ entry. last_of entry.held) rest ≡ None → option_and_then (λ entry. last_of entry.held) (cond test (Some e) rest) ≡ None
-lost-sent-by e rest true lost h = ap last_of lost
-lost-sent-by e rest false lost h = h
+lost-sent-by e rest test lost h = grind arith
 
 pub all-lost-sent : (uri : List ℕ) (xs : List Entry) → AreLost xs → option_and_then (λ entry. last_of entry.held) (find (is_named uri) xs) ≡ None
 all-lost-sent uri [] h = refl
@@ -248,16 +197,12 @@ all-lost-sent uri (e ∷ es) h = lost-sent-by e (find (is_named uri) es) (is_nam
 
 -- what isn't known is unknown
 pub unknown : (k : Option (Option Opened)) → is_known k ≡ false → IsUnknown k
-unknown None h = tt
-unknown (Some None) h = tt
-unknown (Some (Some document)) h = cc
+unknown k h = grind arith
 
 -- ---- what isn't lost
 
 loses-by : (uri other : List ℕ) (old new : Documents) (test : Bool) → is_same uri other ≡ test → KeepsOthers uri old new → (found uri new ≡ Some None → IsUnknown (found uri old)) → found other new ≡ Some None → IsUnknown (found other old)
-loses-by uri other old new true is others here lost =
-    subst (λ f. IsUnknown (shown f)) (sym (found-same uri other old.entries.items is)) (here (sym (ap shown (found-same uri other new.entries.items is)) ∙ lost))
-loses-by uri other old new false is others here lost = subst IsUnknown (sym lost ∙ others other is) tt
+loses-by uri other old new test is others here lost = grind (arith, found-same)
 
 -- where the others stay none is lost if that one isn't
 pub loses_none : (uri : List ℕ) (old new : Documents) → KeepsOthers uri old new → (found uri new ≡ Some None → IsUnknown (found uri old)) → LosesNone old new
@@ -265,53 +210,34 @@ loses_none uri old new others here = λ other lost. loses-by uri other old new (
 
 -- one step after the other
 pub drop-both : (a b c : Option Sent) → MayDrop a b → MayDrop b c → MayDrop a c
-drop-both a b c (inl first) (inl second) = inl (second ∙ first)
-drop-both a b c (inl first) (inr none) = inr none
-drop-both a b c (inr none) (inl second) = inr (second ∙ none)
-drop-both a b c (inr first) (inr none) = inr none
+drop-both a b c h g = grind arith
 
 -- ---- losses that are told
-
--- where one is told nothing more is owed
-pub warned_some : (lost : Option Loss) (loss : Loss) (old new : Documents) → lost ≡ Some loss → IsWarned lost old new
-warned_some None loss old new h = cc
-warned_some (Some l) loss old new h = tt
 
 pub warned_none : (lost : Option Loss) (old new : Documents) → lost ≡ None → LosesNone old new → IsWarned lost old new
 warned_none lost old new is h = subst (λ l. IsWarned l old new) (sym is) h
 
 -- all are lost
 pub warned_all : (lost : Option Loss) (old new : Documents) → (lost ≡ None → AreUnknown old) → IsWarned lost old new
-warned_all None old new h = λ uri gone. h refl uri
-warned_all (Some l) old new h = tt
+warned_all lost old new h = grind arith
 
 -- nothing changes
 pub warned_same : (old new : Documents) → AreSame old new → LosesNone old new
 warned_same old new same = λ uri gone. subst IsUnknown (sym gone ∙ same uri) tt
 
 still_known : (k : Option (Option Opened)) → is_known k ≡ true → k ≡ Some None → ⊥
-still_known None h gone = cc
-still_known (Some None) h gone = cc
-still_known (Some (Some document)) h gone = cc
+still_known k h gone = grind arith
 
 pub none_lost : (documents : Documents) → LosesNone documents documents
 none_lost documents = λ uri gone. subst IsUnknown (sym gone) tt
 
 -- a document may be lost
 pub warned_by : (lost : Option Loss) (uri : List ℕ) (old new : Documents) (was : Bool) → was ≡ is_known (found uri old) → KeepsOthers uri old new → (lost ≡ None → was ≡ true → is_known (found uri new) ≡ true) → IsWarned lost old new
-warned_by None uri old new true is others h = loses_none uri old new others (λ gone. absurd (still_known (found uri new) (h refl refl) gone))
-warned_by None uri old new false is others h = loses_none uri old new others (λ gone. unknown (found uri old) (sym is))
-warned_by (Some l) uri old new was is others h = tt
+warned_by lost uri old new was is others h = grind (arith, loses_none, still_known, unknown)
 
 -- a document is known now, or lost
 pub warned_open : (lost : Option Loss) (uri : List ℕ) (old new : Documents) → KeepsOthers uri old new → (lost ≡ None → true ≡ true → is_known (found uri new) ≡ true) → IsWarned lost old new
-warned_open None uri old new others h = loses_none uri old new others (λ gone. absurd (still_known (found uri new) (h refl refl) gone))
-warned_open (Some l) uri old new others h = tt
-
--- a document is closed
-pub warned_close : (lost : Option Loss) (uri : List ℕ) (old new : Documents) → KeepsOthers uri old new → found uri new ≡ None → IsWarned lost old new
-warned_close None uri old new others closed = loses_none uri old new others (λ gone. let e : None ≡ Some None = sym closed ∙ gone in cc)
-warned_close (Some l) uri old new others closed = tt
+warned_open lost uri old new others h = grind (arith, loses_none, still_known)
 
 -- ---- steps of the open documents
 
@@ -329,17 +255,14 @@ lost-whole xs i past h = subst AreLost (take_all i xs past) h
 
 pub keeps-set : (encoding : Encoding) (step : Option (List ℕ) → Option (List ℕ)) (uri : List ℕ) (xs ys : List Entry) (old new : Entry) → Sets uri xs ys old new
     → Keeps encoding step (Some (known old.held)) (Some (known new.held)) → Keeps encoding step (shown (find (is_named uri) xs)) (shown (find (is_named uri) ys))
-keeps-set encoding step uri xs ys old new s h =
-    subst (λ e. Keeps encoding step (shown e) (shown (find (is_named uri) ys))) (sym s.before) (subst (λ e. Keeps encoding step (Some (known old.held)) (shown e)) (sym s.behind) h)
+keeps-set encoding step uri xs ys old new s h = grind arith
 
 pub knows-none : (encoding : Encoding) (text : Option (List ℕ)) (e : Option Entry) → e ≡ None → Knows encoding (shown e) text
 knows-none encoding text e h = subst (λ f. Knows encoding (shown f) text) (sym h) tt
 
 pub kept-set : (uri : List ℕ) (xs ys : List Entry) (old new : Entry) → Sets uri xs ys old new → (name : List ℕ) → IsKept (Some (known old.held)) name (last_of new.held)
     → IsKept (shown (find (is_named uri) xs)) name (option_and_then (λ entry. last_of entry.held) (find (is_named uri) ys))
-kept-set uri xs ys old new s name h =
-    subst (λ e. IsKept (shown e) name (option_and_then (λ entry. last_of entry.held) (find (is_named uri) ys))) (sym s.before)
-    (subst (λ e. IsKept (Some (known old.held)) name (option_and_then (λ entry. last_of entry.held) e)) (sym s.behind) h)
+kept-set uri xs ys old new s name h = grind arith
 
 pub kept-none : (name : List ℕ) (e : Option Entry) → e ≡ None → IsKept (shown e) name (option_and_then (λ entry. last_of entry.held) e)
 kept-none name e h = subst (λ f. IsKept (shown f) name (option_and_then (λ entry. last_of entry.held) f)) (sym h) tt
@@ -354,18 +277,14 @@ others-sent uri xs ys old new s other far = ap (option_and_then (λ (entry : Ent
 
 sent-kept-by : (uri other : List ℕ) (xs ys : List Entry) (old new : Entry) (test : Bool) → is_same uri other ≡ test → Sets uri xs ys old new → last_of new.held ≡ last_of old.held
     → option_and_then (λ entry. last_of entry.held) (find (is_named other) ys) ≡ option_and_then (λ entry. last_of entry.held) (find (is_named other) xs)
-sent-kept-by uri other xs ys old new true is s same =
-    ap (option_and_then (λ (entry : Entry). last_of entry.held)) (found-same uri other ys is ∙ s.behind) ∙ same ∙ sym (ap (option_and_then (λ (entry : Entry). last_of entry.held)) (found-same uri other xs is ∙ s.before))
-sent-kept-by uri other xs ys old new false is s same = others-sent uri xs ys old new s other is
+sent-kept-by uri other xs ys old new test is s same = grind (arith, found-same, others-sent)
 
 pub sent-kept : (uri : List ℕ) (xs ys : List Entry) (old new : Entry) → Sets uri xs ys old new → last_of new.held ≡ last_of old.held → (other : List ℕ)
     → option_and_then (λ entry. last_of entry.held) (find (is_named other) ys) ≡ option_and_then (λ entry. last_of entry.held) (find (is_named other) xs)
 sent-kept uri xs ys old new s same other = sent-kept-by uri other xs ys old new (is_same uri other) refl s same
 
 pub knows-unknown : (encoding : Encoding) (k : Option (Option Opened)) (text : Option (List ℕ)) → IsUnknown k → Knows encoding k text
-knows-unknown encoding None text h = tt
-knows-unknown encoding (Some None) text h = tt
-knows-unknown encoding (Some (Some document)) text h = absurd h
+knows-unknown encoding k text h = grind arith
 
 -- none of some entries is known
 abbrev pub AreUnknownAll : List Entry → Type 0
@@ -381,8 +300,7 @@ pub unknown-more : (xs : List Entry) (i : ℕ) (e : Entry) → i < length xs →
 unknown-more xs i e within is h none = subst AreUnknownAll (sym (take_more xs i e within ∙ ap (λ x. take i xs ++ x ∷ []) (sym is))) (unknown-push (take i xs) e h none)
 
 unknown-by : (e : Entry) (rest : Option Entry) (test : Bool) → is_known (Some (known e.held)) ≡ false → IsUnknown (shown rest) → IsUnknown (shown (cond test (Some e) rest))
-unknown-by e rest true none h = unknown (Some (known e.held)) none
-unknown-by e rest false none h = h
+unknown-by e rest test h g = grind arith
 
 all-unknown-in : (uri : List ℕ) (xs : List Entry) → AreUnknownAll xs → IsUnknown (shown (find (is_named uri) xs))
 all-unknown-in uri [] h = tt

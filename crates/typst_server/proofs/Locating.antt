@@ -1,18 +1,6 @@
 -- What stands at ranges, one after the other.
-use Rattle.std.proofs.Common.{◌≡◌, ℕ, ◌+◌, ◌<◌, ◌≤◌, List, [], ◌∷◌, ◌++◌, length, take, get_or, Option, None, Some, Result, Ok, Err, IfOk, IsSomeAnd, String, ap, sym, subst}
-use Rattle.std.proofs.lemmas.List.{map_more, take_all}
-use Rattle.std.specs.Prelude.{map}
-use Rattle.std.specs.declared.ops.Range.{Range}
-use Rattle.std.specs.String.{string_bytes}
+use Rattle.typst_server.proofs.Cited.{◌≡◌, ℕ, ◌+◌, ◌<◌, ◌≤◌, List, [], ◌∷◌, ◌++◌, length, take, get_or, Option, Result, IfOk, IsSomeAnd, String, ap, sym, subst, arith, map_more, take_all, Range, string_bytes, Data, Occurrence, Position, Opened, AreAt, AtPosition, occurrences, map}
 use Rattle.std.specs.declared.alloc.Global.{Global}
-use Rattle.serde_json.specs.Data.{Data}
-use Rattle.typst_features.specs.Occurrence.{Occurrence}
-use Rattle.typst_positions.specs.Positions.{byte_at}
-use Rattle.typst_positions.specs.declared.positions.Position.{Position}
-use Rattle.typst_protocol.specs.Parameters.{position_in}
-use Rattle.typst_document.specs.Document.{Opened}
-use Rattle.typst_server.specs.Located.{AreAt}
-use Rattle.typst_server.specs.Occurrences.{AtPosition, occurrences}
 
 -- one more stands at the next range
 one_more : {A : Type 0} (Is : Range ℕ → A → Type 0) (rs : List (Range ℕ)) (xs : List A) (r : Range ℕ) (x : A) → AreAt Is rs xs → Is r x → AreAt Is (rs ++ r ∷ []) (xs ++ x ∷ [])
@@ -31,13 +19,9 @@ located_all Is range_of found xs i past h = subst (λ ys. AreAt Is ys xs) (ap (m
 
 -- what holds of the byte of a position
 at_same : (o : Option Position) (P Q : Position → Type 0) → ((p : Position) → P p → Q p) → IsSomeAnd o P → IsSomeAnd o Q
-at_same None P Q f h = h
-at_same (Some p) P Q f h = f p h
+at_same o P Q f h = grind arith
 
 -- what is told of the occurrences that were found is told of those at the position
 pub told_at : {E : Type 0} (params : Option Data) (document : Opened) (pick : List Occurrence → List (Range ℕ)) (os : List Occurrence) (Tell : List (Range ℕ) → List ℕ → Type 0) (result : Result (String Global) E)
     → AtPosition params document (λ b. os ≡ occurrences document b) → IfOk result (λ text. Tell (pick os) (string_bytes text)) → IfOk result (λ text. AtPosition params document (λ b. Tell (pick (occurrences document b)) (string_bytes text)))
-told_at params document pick os Tell (Ok text) at h =
-    at_same (position_in params) (λ p. os ≡ occurrences document (byte_at document.encoding document.source.text p)) (λ p. Tell (pick (occurrences document (byte_at document.encoding document.source.text p))) (string_bytes text))
-    (λ p e. subst (λ xs. Tell (pick xs) (string_bytes text)) e h) at
-told_at params document pick os Tell (Err e) at h = tt
+told_at params document pick os Tell result at h = grind arith

@@ -1,17 +1,7 @@
 -- The numbers of all tokens after an edit: those outside of its window stay, but for the first one behind it.
-use Rattle.std.proofs.Common.{◌≡◌, ℕ, suc, ◌+◌, ◌-◌, ◌*◌, ◌^◌, ◌<◌, ◌≤◌, ◌⊎◌, List, [], ◌∷◌, ◌++◌, length, map, take, drop, get_or, refl, ap, sym, subst, ◌∙◌, arith, inl, inr}
-use Rattle.std.specs.declared.ops.Range.{Range}
-use Rattle.typst_document.specs.Tree.{Tree}
-use Rattle.typst_positions.specs.Positions.{position_of}
-use Rattle.typst_positions.specs.declared.columns.Encoding.{Encoding}
-use Rattle.typst_styles.specs.Tokens.{tokens_in}
-use Rattle.typst_styles.specs.Windows.{IsEdit, IsWindow, Stays, moved, range_of}
-use Rattle.typst_styles.specs.declared.tokens.Token.{Token}
-use Rattle.typst_styles.proofs.EachToken.{AllBefore, AllFrom, Between}
+use Rattle.typst_server.proofs.Cited.{◌≡◌, ℕ, suc, ◌+◌, ◌-◌, ◌*◌, ◌^◌, ◌<◌, ◌≤◌, ◌⊎◌, List, [], ◌∷◌, ◌++◌, length, map, take, drop, get_or, refl, ap, sym, subst, ◌∙◌, arith, inl, inr, Range, Tree, position_of, Encoding, tokens_in, IsEdit, IsWindow, Stays, moved, range_of, Token, encoded, shown_each, SameEnds, AllBefore, AllFrom, Between}
 use Rattle.typst_styles.proofs.WindowSides.{Sides, sides}
 use Rattle.typst_styles.proofs.WindowTokens.{AtLine, IsFeed, window_law}
-use Rattle.typst_server.specs.Numbers.{encoded, shown_each}
-use Rattle.typst_server.specs.Tracked.{SameEnds}
 use Rattle.typst_server.proofs.SamePlaces.{SameBehind, first_line, lines_to}
 use Rattle.typst_server.proofs.SplicedNumbers.{AllFrom as AllDown, down}
 use Rattle.typst_server.proofs.SplicedSent.{numbers_stay}
@@ -27,10 +17,7 @@ none_before (t ∷ ts) h = let first = h.0 in absurd (omega (arith, first))
 
 -- before the window
 front_shown : (e : Encoding) (u t : List ℕ) (a : ℕ) (fs : List Token) → take a u ≡ take a t → AtLine t a → a ≤ length u → a ≤ length t → length t ≤ 2 ^ 64 - 1 → AllBefore a fs → shown_each e u fs ≡ shown_each e t fs
-front_shown e u t a fs same (inl zero_is) low low_was few w =
-    let none : fs ≡ [] = none_before fs (subst (λ z. AllBefore z fs) zero_is w) in
-    ap (shown_each e u) none ∙ sym (ap (shown_each e t) none)
-front_shown e u t a fs same (inr line) low low_was few w = sym (front-shown e t u a (sym same) line.0 line.1 low_was low (omega (arith, low_was, few)) fs w)
+front_shown e u t a fs same h low low_was few w = grind (arith, none_before, front-shown)
 
 -- behind it they are shown as many lines further
 pub record Behind (e : Encoding) (u t : List ℕ) (m n : ℕ) (bs : List Token) : Type 0 where
@@ -92,5 +79,4 @@ numbers_renewed e u t was now read window from w is shift =
     (length_shown e t fs)
     (subst (λ k. SameEnds (encoded 0 0 (shown_each e t fs ++ (shown_each e t ms ++ shown_each e t bs))) (encoded 0 0 (shown_each e t fs ++ (shown_each e u ws ++ map (down rest.l rest.k) (shown_each e t bs)))) (5 * length (shown_each e t fs)) (5 * (k - 1)))
     (length_shown e t bs) stay) in
-    subst (λ ss. SameEnds (encoded 0 0 ss) (encoded 0 0 (shown_each e u (tokens_in (range_of 0 (length u)) u now))) (5 * length fs) (5 * (length bs - 1))) (sym old)
-    (subst (λ ss. SameEnds (encoded 0 0 (shown_each e t fs ++ (shown_each e t ms ++ shown_each e t bs))) (encoded 0 0 ss) (5 * length fs) (5 * (length bs - 1))) (sym new) at_front)
+    grind arith

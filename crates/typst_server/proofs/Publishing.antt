@@ -1,32 +1,11 @@
 -- Problems that are published one by one, and what is said of a document.
-use Rattle.std.proofs.Common.{◌≡◌, ℕ, ◌+◌, ◌<◌, ◌≤◌, List, [], ◌∷◌, ◌++◌, length, take, get_or, Option, None, Some, Result, Ok, Err, IfOk, MatchResult, codes, ap, sym, subst, ◌∙◌}
-use Rattle.std.proofs.lemmas.List.{map_more, take_all}
-use Rattle.std.proofs.lemmas.List.Elements.{All-cons, All-nil, All-weaker}
-use Rattle.std.specs.Prelude.{All, String, map, ℤ}
-use Rattle.std.specs.String.{string_bytes}
+use Rattle.typst_server.proofs.Cited.{◌≡◌, ℕ, ◌+◌, ◌<◌, List, [], ◌∷◌, ◌++◌, length, take, get_or, Option, Some, Result, Ok, Err, IfOk, MatchResult, codes, sym, subst, arith, map_more, All-weaker, string_bytes, Data, IsJsonOf, Opened, TakesEvent, found, AreNone, ArePublished, Empties, EmptiesAll, IsNews, IsNewsReply, IsNotice, IsPublished, IsToldOf, Publishes, Reports, problems_of, Refusal, OutOfMemory, ShownErrors, Documents, News, Reply, Running, Standing, Reported, reported, WritesReport, All, String, map, ℤ}
 use Rattle.std.specs.declared.alloc.Global.{Global}
-use Rattle.serde_json.specs.Data.{Data}
-use Rattle.typst_features.specs.Problems.{Reported, reported}
 use Rattle.typst_features.specs.declared.report.Problem as features
-use Rattle.typst_protocol.specs.Bodies.{IsJsonOf}
 use Rattle.typst_protocol.specs.Parameters as parameters
-use Rattle.typst_protocol.specs.Written.{WritesReport}
 use Rattle.typst_protocol.specs.declared.values.Problem.{Problem}
 use Rattle.typst_protocol.specs.declared.values.Problems.{Problems}
 use Rattle.typst_protocol.specs.declared.values.Report.{Report}
-use Rattle.typst_document.specs.Document.{Opened}
-use Rattle.typst_server.specs.Answers.{TakesEvent}
-use Rattle.typst_server.specs.Documents.{IsMissing, found}
-use Rattle.typst_server.specs.Published.{AreNews, AreNone, ArePublished, Empties, EmptiesAll, IsNews, IsNewsReply, IsNotice, IsPublished, IsToldOf, Publishes, Reports, problems_of}
-use Rattle.typst_protocol.specs.declared.refusal.Refusal.{Refusal}
-use Rattle.typst_protocol.specs.declared.refusal.Refusal.TheVariants.{OutOfMemory}
-use Rattle.typst_server.specs.declared.diagnostics.ShownErrors.{ShownErrors}
-use Rattle.typst_server.specs.declared.documents.Documents.{Documents}
-use Rattle.typst_server.specs.declared.reply.News.{News}
-use Rattle.typst_server.specs.declared.reply.Reply.{Reply}
-use Rattle.typst_server.specs.declared.reply.Reply.TheVariants as reply
-use Rattle.typst_server.specs.declared.server.Phase.TheVariants.{Running}
-use Rattle.typst_server.specs.declared.server.Standing.{Standing}
 
 -- one more is published
 one-more : (document : Opened) (rs : List Reported) (ps : List Problem) (r : Reported) (p : Problem) → ArePublished document rs ps → IsPublished document r p → ArePublished document (rs ++ r ∷ []) (ps ++ p ∷ [])
@@ -40,42 +19,15 @@ pub published-more : (document : Opened) (found : List features.Problem) (ps : L
 published-more document found ps i d p within h one =
     subst (λ rs. ArePublished document rs (ps ++ p ∷ [])) (sym (map_more reported found i d within)) (one-more document (map reported (take i found)) ps (reported (get_or found i d)) p h one)
 
-pub published-all : (document : Opened) (found : List features.Problem) (rs : List Reported) (ps : List Problem) (i : ℕ) → length found ≤ i → map reported found ≡ rs → ArePublished document (map reported (take i found)) ps
-    → ArePublished document rs ps
-published-all document found rs ps i past whole h = subst (λ xs. ArePublished document xs ps) (ap (map reported) (take_all i found past) ∙ whole) h
-
 -- what is told of the document that parameters name
 pub takes_news : (old new : Standing) (params : Option Data) (documents : Documents) (uri : List ℕ) (answer : Reply) → old.phase ≡ Running → new ≡ old → parameters.uri params ≡ Some uri
     → IsNewsReply new.errors (found uri documents) uri (parameters.version params) answer → TakesEvent old new params documents answer
-takes_news old new params documents uri reply.Nothing phase same named h = same
-takes_news old new params documents uri (reply.News news) phase same named h = (phase, same, record { uri = uri; named = named; are = h })
-takes_news old new params documents uri (reply.Response text) phase same named h = absurd h
-takes_news old new params documents uri (reply.Nameless why news) phase same named h = absurd h
-takes_news old new params documents uri (reply.Exit status) phase same named h = absurd h
+takes_news old new params documents uri answer phase same named h = grind arith
 
 -- one notification is told that was made
 pub told_news : (which : ShownErrors) (known : Option (Option Opened)) (uri : List ℕ) (version : Option ℤ) (made : Result (String Global) Refusal) (answer : Reply)
     → IfOk made (λ text. IsNews which known uri version (string_bytes text)) → IsToldOf made answer → IsNewsReply which known uri version answer
-told_news which known uri version (Ok text) (reply.News news) h told = subst (All (λ t. IsNews which known uri version (string_bytes t))) (sym told) (All-cons (λ t. IsNews which known uri version (string_bytes t)) text [] h (All-nil (λ t. IsNews which known uri version (string_bytes t))))
-told_news which known uri version (Err why) (reply.News news) h told = absurd told
-told_news which known uri version made reply.Nothing h told = tt
-told_news which known uri version (Ok text) (reply.Response body) h told = absurd told
-told_news which known uri version (Err why) (reply.Response body) h told = absurd told
-told_news which known uri version (Ok text) (reply.Nameless why news) h told = absurd told
-told_news which known uri version (Err e) (reply.Nameless why news) h told = absurd told
-told_news which known uri version (Ok text) (reply.Exit status) h told = absurd told
-told_news which known uri version (Err why) (reply.Exit status) h told = absurd told
-
--- a document that isn't known has none
-pub none_news : (which : ShownErrors) (known : Option (Option Opened)) (uri : List ℕ) (version : Option ℤ) (why : Refusal) (text : List ℕ) → IsMissing known why → Publishes (AreNone uri) text → IsNews which known uri version text
-none_news which None uri version why text h published = published
-none_news which (Some None) uri version why text h published = published
-none_news which (Some (Some document)) uri version why text h published = absurd h
-
-pub none_all : (which : ShownErrors) (known : Option (Option Opened)) (uri : List ℕ) (version : Option ℤ) (why : Refusal) (news : News) → IsMissing known why → All (λ text. Publishes (AreNone uri) (string_bytes text)) news.published.items
-    → AreNews which known uri version news
-none_all which known uri version why news missing h =
-    All-weaker (λ text. Publishes (AreNone uri) (string_bytes text)) (λ text. IsNews which known uri version (string_bytes text)) (λ text one. none_news which known uri version why (string_bytes text) missing one) news.published.items h
+told_news which known uri version made answer h told = grind arith
 
 pub empties : (uri : List ℕ) (news : News) → All (λ text. Publishes (AreNone uri) (string_bytes text)) news.published.items → EmptiesAll news
 empties uri news h = All-weaker (λ text. Publishes (AreNone uri) (string_bytes text)) (λ text. Empties (string_bytes text)) (λ text one. (uri, one)) news.published.items h

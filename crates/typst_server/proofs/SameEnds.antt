@@ -1,7 +1,5 @@
 -- Two lists of numbers that begin alike and end alike: those that were sent, and those of the present tokens.
-use Rattle.std.proofs.Common.{◌≡◌, ℕ, ◌+◌, ◌-◌, ◌≤◌, List, ◌++◌, length, take, drop, refl, ap, sym, ◌∙◌, arith, append_assoc, length-append, take-append-drop, drop-drop, take-take, take_at, drop_at}
-use Rattle.std.proofs.lemmas.List.{drop_all}
-use Rattle.typst_server.specs.Tracked.{SameEnds}
+use Rattle.typst_server.proofs.Cited.{◌≡◌, ℕ, ◌+◌, ◌-◌, ◌≤◌, List, ◌++◌, length, take, drop, refl, ap, sym, ◌∙◌, arith, append_assoc, length-append, take-append-drop, drop-drop, take-take, take_at, drop_at, drop_all, SameEnds}
 
 take_less : (xs ys : List ℕ) (f g : ℕ) → f ≤ g → take g xs ≡ take g ys → take f xs ≡ take f ys
 take_less xs ys f g le e = sym (take-take f g xs le) ∙ (ap (take f) e ∙ take-take f g ys le)
@@ -14,30 +12,11 @@ drop_less xs ys b c le one two e =
 
 -- fewer are the same too
 pub ends_less : (old new : List ℕ) (f b g c : ℕ) → g ≤ f → c ≤ b → SameEnds old new f b → SameEnds old new g c
-ends_less old new f b g c low high w =
-    let one = w.front_old in
-    let two = w.front_new in
-    let three = w.back_old in
-    let four = w.back_new in
-    record {
-      first = take_less old new g f low w.first;
-      last = drop_less old new c b high three four w.last;
-      front_old = omega (arith, low, one);
-      front_new = omega (arith, low, two);
-      back_old = omega (arith, high, three);
-      back_new = omega (arith, high, four);
-    }
+ends_less old new f b g c low high w = grind (arith, take_less, drop_less)
 
 -- and from one list to the next
 pub ends_both : (old mid new : List ℕ) (f b : ℕ) → SameEnds old mid f b → SameEnds mid new f b → SameEnds old new f b
-ends_both old mid new f b v w = record {
-  first = v.first ∙ w.first;
-  last = v.last ∙ w.last;
-  front_old = v.front_old;
-  front_new = w.front_new;
-  back_old = v.back_old;
-  back_new = w.back_new;
-}
+ends_both old mid new f b v w = grind arith
 
 rear : (xs ys : List ℕ) → drop (length (xs ++ ys) - length ys) (xs ++ ys) ≡ ys
 rear xs ys = drop_at xs ys (length (xs ++ ys) - length ys) (omega (arith, length-append xs ys))
@@ -47,16 +26,7 @@ pub ends_of : (old new front middle other back : List ℕ) → old ≡ front ++ 
 ends_of old new front middle other back e f =
     let parts : old ≡ (front ++ middle) ++ back = e ∙ sym (append_assoc front middle back) in
     let other_parts : new ≡ (front ++ other) ++ back = f ∙ sym (append_assoc front other back) in
-    let long : length old ≡ length front + (length middle + length back) = omega (arith, ap length e, length-append front (middle ++ back), length-append middle back) in
-    let other_long : length new ≡ length front + (length other + length back) = omega (arith, ap length f, length-append front (other ++ back), length-append other back) in
-    record {
-      first = ap (take (length front)) e ∙ (take_at front (middle ++ back) (length front) (omega arith) ∙ sym (ap (take (length front)) f ∙ take_at front (other ++ back) (length front) (omega arith)));
-      last = ap (λ xs. drop (length xs - length back) xs) parts ∙ (rear (front ++ middle) back ∙ sym (ap (λ xs. drop (length xs - length back) xs) other_parts ∙ rear (front ++ other) back));
-      front_old = omega (arith, long);
-      front_new = omega (arith, other_long);
-      back_old = omega (arith, long);
-      back_new = omega (arith, other_long);
-    }
+    grind (arith, length-append, take_at, rear)
 
 -- what is between the ends of the new list, put in the place of what is between those of the old one, makes the new one
 pub ends_made : (old new : List ℕ) (f b : ℕ) → f + b ≤ length new → SameEnds old new f b → take f old ++ (take (length new - f - b) (drop f new) ++ drop (length old - b) old) ≡ new
@@ -64,19 +34,11 @@ ends_made old new f b fits w =
     let size : ℕ = length new - f - b in
     let there : f + size ≡ length new - b = omega (arith, fits) in
     let rest : drop (length new - b) new ≡ drop size (drop f new) = sym (drop-drop size f new ∙ ap (λ n. drop n new) there) in
-    (λ i. w.first i ++ (take size (drop f new) ++ (w.last ∙ rest) i))
-    ∙ (ap (λ xs. take f new ++ xs) (take-append-drop size (drop f new)) ∙ take-append-drop f new)
+    grind (arith, take-append-drop)
 
 -- of one list both ends are the same, and of any two that many numbers: none
 pub ends_itself : (xs : List ℕ) (n : ℕ) → n ≤ length xs → SameEnds xs xs n n
 ends_itself xs n le = record { first = refl; last = refl; front_old = le; front_new = le; back_old = le; back_new = le }
 
 pub no_ends : (old new : List ℕ) → SameEnds old new 0 0
-no_ends old new = record {
-  first = refl;
-  last = drop_all (length old - 0) old (omega arith) ∙ sym (drop_all (length new - 0) new (omega arith));
-  front_old = omega arith;
-  front_new = omega arith;
-  back_old = omega arith;
-  back_new = omega arith;
-}
+no_ends old new = grind (arith, drop_all)

@@ -1,15 +1,7 @@
 -- Positions of two texts that are the same up to a line's start, or from one on.
-use Rattle.std.proofs.Common.{◌≡◌, ℕ, zero, suc, ◌+◌, ◌-◌, ◌<◌, ◌≤◌, ◌==◌, ◌&&◌, ◌||◌, Bool, true, false, not, cond, nat_le, min, List, [], ◌∷◌, ◌++◌, length, map, take, drop, get_or, refl, ap, sym, subst, ◌∙◌, arith, length-append, length-drop, length-take-le}
-use Rattle.std.proofs.lemmas.Bool.{le-leb, lt-leb}
+use Rattle.typst_server.proofs.Cited.{◌≡◌, ℕ, zero, suc, ◌+◌, ◌-◌, ◌<◌, ◌≤◌, Bool, true, false, not, cond, min, List, [], ◌∷◌, ◌++◌, length, map, take, drop, get_or, refl, ap, sym, ◌∙◌, arith, length-append, length-drop, length-take-le, le-leb, lt-leb, prefix_len, line_of, position_of, Encoding, Position, column_of, is_line_end, line_at, line_starts, starts_between, starts_line, held, position-is}
 use Rattle.std.proofs.lemmas.List.{drop-drop, get_or-drop, get_or-take, length-map, take-append-drop, drop-append-le}
-use Rattle.std.specs.List.{prefix_len}
-use Rattle.typst_positions.specs.Columns.{column_of}
-use Rattle.typst_positions.specs.Positions.{line_of, position_of}
-use Rattle.typst_positions.specs.Starts.{is_line_end, line_at, line_starts, starts_between, starts_line}
-use Rattle.typst_positions.specs.declared.columns.Encoding.{Encoding}
-use Rattle.typst_positions.specs.declared.positions.Position.{Position}
 use Rattle.typst_positions.proofs.Holding.{count-between, ends-last, last-le, last_start}
-use Rattle.typst_positions.proofs.Places.{held, position-is}
 use Rattle.typst_positions.proofs.Tables.{between-moved, between-one, between-same, between-split}
 
 -- how many lines start up to a byte
@@ -18,15 +10,10 @@ lines_to text byte = length (starts_between text 0 byte)
 
 line_is : (text : List ℕ) (byte : ℕ) → byte ≤ length text → line_of text byte ≡ lines_to text byte - 1
 unfolding line_starts
-line_is text byte h =
-    ap (λ n. n - 1) (count-between text (λ k. nat_le k byte) 0 byte (length text) (omega arith) h (λ k l. le-leb k byte l) (λ k l _. lt-leb k byte l))
+line_is text byte h = grind (arith, count-between, le-leb, lt-leb)
 
 starts_alike : (t u : List ℕ) (a b : ℕ) → get_or t a 0 ≡ get_or u b 0 → get_or t (suc a) 0 ≡ get_or u (suc b) 0 → starts_line t (suc a) ≡ starts_line u (suc b)
-starts_alike t u a b e f =
-    ap (λ c. c == 10 || (c == 13 && not (get_or t (suc a) 0 == 10))) e ∙ ap (λ d. get_or u b 0 == 10 || (get_or u b 0 == 13 && not (d == 10))) f
-
-starts_after : (t : List ℕ) (a : ℕ) → get_or t a 0 ≡ 10 → starts_line t (suc a) ≡ true
-starts_after t a e = ap (λ c. c == 10 || (c == 13 && not (get_or t (suc a) 0 == 10))) e
+starts_alike t u a b e f = grind arith
 
 -- the position of a byte, by where the last line up to it starts
 place_of : (e : Encoding) (text : List ℕ) (byte : ℕ) → byte ≤ length text → (let p : Position = record { line = lines_to text byte - 1; column = column_of e (line_at text (last_start text byte)) (byte - last_start text byte) } in p) ≡ position_of e text byte
@@ -52,40 +39,21 @@ module _ (t u : List ℕ) (b c : ℕ) (w : SameBehind t u b c) where
   got k = sym (get_or-drop b t k 0) ∙ (ap (λ xs. get_or xs k 0) w.drops ∙ get_or-drop c u k 0)
 
   first_starts : starts_line t b ≡ true
-  first_starts =
-      let some = w.some in
-      let is : b ≡ suc (b - 1) = omega (arith, some) in
-      ap (starts_line t) is ∙ starts_after t (b - 1) w.feed
-
-  second_starts : starts_line u c ≡ true
-  second_starts =
-      let some = w.some_too in
-      let is : c ≡ suc (c - 1) = omega (arith, some) in
-      ap (starts_line u) is ∙ starts_after u (c - 1) w.feed_too
+  first_starts = grind arith
 
   starts_same : (k : ℕ) → starts_line t (b + k) ≡ starts_line u (c + k)
-  starts_same zero =
-      let one : b + zero ≡ b = omega arith in
-      let two : c + zero ≡ c = omega arith in
-      ap (starts_line t) one ∙ (first_starts ∙ sym (ap (starts_line u) two ∙ second_starts))
-  starts_same (suc k) =
-      let one : b + suc k ≡ suc (b + k) = omega arith in
-      let two : c + suc k ≡ suc (c + k) = omega arith in
-      ap (starts_line t) one
-      ∙ (starts_alike t u (b + k) (c + k) (got k) (sym (ap (λ n. get_or t n 0) one) ∙ (got (suc k) ∙ ap (λ n. get_or u n 0) two))
-      ∙ sym (ap (starts_line u) two))
+  starts_same zero = grind arith
+  starts_same (suc k) = let one : b + suc k ≡ suc (b + k) = omega arith in grind (arith, starts_alike, got)
 
   record Last (k : ℕ) : Type 0 where
     low : b ≤ last_start t (b + k)
     same : last_start u (c + k) + b ≡ last_start t (b + k) + c
 
   last_choice : (p q : Bool) (k m n : ℕ) → p ≡ q → b ≤ m → n + b ≡ m + c → (b ≤ cond p (suc (b + k)) m) × (cond q (suc (c + k)) n + b ≡ cond p (suc (b + k)) m + c)
-  last_choice true q k m n e l g = (omega arith, ap (λ z. cond z (suc (c + k)) n + b) (sym e) ∙ omega arith)
-  last_choice false q k m n e l g = (l, ap (λ z. cond z (suc (c + k)) n + b) (sym e) ∙ g)
+  last_choice p q k m n e l g = grind arith
 
   last_first : (p : Bool) (a n : ℕ) → p ≡ true → cond p (suc a) n ≡ suc a
-  last_first true a n e = refl
-  last_first false a n e = absurd (cc)
+  last_first p a n e = grind arith
 
   last_same : (k : ℕ) → Last k
   last_same zero =
@@ -93,19 +61,14 @@ module _ (t u : List ℕ) (b c : ℕ) (w : SameBehind t u b c) where
       let some_too = w.some_too in
       let one : b + zero ≡ suc (b - 1) = omega (arith, some) in
       let two : c + zero ≡ suc (c - 1) = omega (arith, some_too) in
-      let first : last_start t (b + zero) ≡ suc (b - 1) = ap (last_start t) one ∙ last_first (starts_line t (suc (b - 1))) (b - 1) (last_start t (b - 1)) (starts_after t (b - 1) w.feed) in
-      let second : last_start u (c + zero) ≡ suc (c - 1) = ap (last_start u) two ∙ last_first (starts_line u (suc (c - 1))) (c - 1) (last_start u (c - 1)) (starts_after u (c - 1) w.feed_too) in
-      record { low = omega (arith, first, some); same = omega (arith, first, second, some, some_too) }
+      grind arith
   last_same (suc k) =
       let one : b + suc k ≡ suc (b + k) = omega arith in
       let two : c + suc k ≡ suc (c + k) = omega arith in
       let so_far = last_same k in
       let test : starts_line t (suc (b + k)) ≡ starts_line u (suc (c + k)) = sym (ap (starts_line t) one) ∙ (starts_same (suc k) ∙ ap (starts_line u) two) in
       let both = last_choice (starts_line t (suc (b + k))) (starts_line u (suc (c + k))) k (last_start t (b + k)) (last_start u (c + k)) test so_far.low so_far.same in
-      record {
-        low = subst (λ i. b ≤ last_start t i) (sym one) both.0;
-        same = ap (λ i. last_start u i + b) two ∙ (both.1 ∙ sym (ap (λ i. last_start t i + c) one));
-      }
+      grind arith
 
   -- how many lines start between
   lines_same : (k : ℕ) → lines_to u (c + k) + lines_to t (b - 1) ≡ lines_to t (b + k) + lines_to u (c - 1)
@@ -187,8 +150,7 @@ until_step false x m n xs ys e = refl
 -- what is taken up to a byte that fails a test doesn't depend on what is behind it
 until : (q : ℕ → Bool) (xs ys zs : List ℕ) (i : ℕ) → i < length xs → q (get_or xs i 0) ≡ false → take (prefix_len q (xs ++ ys)) (xs ++ ys) ≡ take (prefix_len q (xs ++ zs)) (xs ++ zs)
 until q [] ys zs i l e = absurd (omega (arith, l))
-until q (x ∷ xs) ys zs zero l e =
-    ap (λ b. take (cond b (1 + prefix_len q (xs ++ ys)) 0) (x ∷ (xs ++ ys))) e ∙ sym (ap (λ b. take (cond b (1 + prefix_len q (xs ++ zs)) 0) (x ∷ (xs ++ zs))) e)
+until q (x ∷ xs) ys zs zero l e = grind arith
 until q (x ∷ xs) ys zs (suc i) l e = until_step (q x) x (prefix_len q (xs ++ ys)) (prefix_len q (xs ++ zs)) (xs ++ ys) (xs ++ zs) (until q xs ys zs i (omega (arith, l)) e)
 
 module _ (t u : List ℕ) (a : ℕ) (same : take a t ≡ take a u) (some : 0 < a) (feed : get_or t (a - 1) 0 ≡ 10) (few : a ≤ length t) (few_too : a ≤ length u) where
@@ -201,10 +163,7 @@ module _ (t u : List ℕ) (a : ℕ) (same : take a t ≡ take a u) (some : 0 < a
 
   last_front : (k : ℕ) → k < a → last_start t k ≡ last_start u k
   last_front zero h = refl
-  last_front (suc k) h =
-      let test = starts_front (suc k) h in
-      let rest = last_front k (omega (arith, h)) in
-      λ i. cond (test i) (suc k) (rest i)
+  last_front (suc k) h = grind (arith, starts_front (suc k) h, last_front k (omega (arith, h)))
 
   parted : (text : List ℕ) (s : ℕ) → s < a → a ≤ length text → drop s text ≡ drop s (take a text) ++ drop a text
   parted text s h l = sym (ap (drop s) (take-append-drop a text)) ∙ drop-append-le s (take a text) (drop a text) (omega (arith, h, length-take-le a text l))

@@ -1,7 +1,5 @@
 -- The numbers of tokens where some of these gave way to others, and those after them moved down.
-use Rattle.std.proofs.Common.{◌≡◌, ℕ, ◌+◌, ◌-◌, ◌*◌, ◌≤◌, ◌==◌, inl, inr, List, [], ◌∷◌, ◌++◌, length, map, refl, ap, sym, ◌∙◌, arith, append_assoc, length-append, if◌then◌else◌}
-use Rattle.std.proofs.lemmas.Bool.{cases_eq, eq-eqb, ne_eqb}
-use Rattle.typst_server.specs.Numbers.{Shown, clipped, encoded, five}
+use Rattle.typst_server.proofs.Cited.{◌≡◌, ℕ, ◌+◌, ◌-◌, ◌*◌, ◌≤◌, List, [], ◌∷◌, ◌++◌, length, map, refl, ap, sym, ◌∙◌, arith, append_assoc, length-append, Shown, encoded, five}
 
 -- the line and the column of the last of some tokens, behind one at a line and a column
 abbrev pub last_line : ℕ → List Shown → ℕ
@@ -31,17 +29,8 @@ abbrev pub AllFrom : ℕ → List Shown → Type 0
 AllFrom m [] = Unit {0}
 AllFrom m (s ∷ ss) = (m ≤ s.line) × AllFrom m ss
 
-same_line : (m n a b x y : ℕ) → x + m ≡ a + n → y + m ≡ b + n → (x == y) ≡ (a == b)
-same_line m n a b x y e f = elim (cases_eq a b) [
-  | inl same ↦ let also : x ≡ y = omega (arith, e, f, same) in eq-eqb x y also ∙ sym (eq-eqb a b same)
-  | inr other ↦ ne_eqb x y (λ g. other (omega (arith, e, f, g))) ∙ sym (ne_eqb a b other)
-]
-
 five_down : (m n line here column : ℕ) (s : Shown) → m ≤ s.line → m ≤ line → here + m ≡ line + n → five here column (down m n s) ≡ five line column s
-five_down m n line here column s l k e =
-    let lines : s.line - m + n - here ≡ s.line - line = omega (arith, l, k, e) in
-    let test : (s.line - m + n == here) ≡ (s.line == line) = same_line m n s.line line (s.line - m + n) here (omega (arith, l)) e in
-    λ i. clipped (lines i) ∷ clipped (s.column - (if test i then column else 0)) ∷ clipped s.size ∷ s.kind ∷ s.modifiers ∷ []
+five_down m n line here column s l k e = grind arith
 
 pub encoded-down : (m n line here column : ℕ) (ss : List Shown) → m ≤ line → here + m ≡ line + n → AllFrom m ss → encoded here column (map (down m n) ss) ≡ encoded line column ss
 encoded-down m n line here column [] k e w = refl

@@ -1,7 +1,5 @@
 -- The numbers of all tokens after an edit begin and end as those before it.
-use Rattle.std.proofs.Common.{◌≡◌, ℕ, ◌+◌, ◌-◌, ◌*◌, List, [], ◌∷◌, ◌++◌, length, map, take, drop, ap, sym, ◌∙◌, arith, append_assoc, take_at, drop_at}
-use Rattle.typst_server.specs.Numbers.{Shown, encoded, five}
-use Rattle.typst_server.specs.Tracked.{SameEnds}
+use Rattle.typst_server.proofs.Cited.{◌≡◌, ℕ, ◌+◌, ◌-◌, ◌*◌, List, [], ◌∷◌, ◌++◌, length, map, take, drop, ap, sym, ◌∙◌, arith, append_assoc, take_at, drop_at, Shown, encoded, five, SameEnds}
 use Rattle.typst_server.proofs.SameEnds.{ends_less, ends_of}
 use Rattle.typst_server.proofs.SplicedNumbers.{AllFrom, down, encoded-append, encoded-down, encoded-length, last_column, last_line}
 
@@ -34,9 +32,4 @@ numbers_stay m n fs ms ws (s ∷ bs) low =
 
 -- the numbers of tokens in the middle, by the one before them
 pub numbers_between : (fs ms bs : List Shown) → take (5 * length ms) (drop (5 * length fs) (encoded 0 0 (fs ++ (ms ++ bs)))) ≡ encoded (last_line 0 fs) (last_column 0 fs) ms
-numbers_between fs ms bs =
-    let front : List ℕ = encoded 0 0 fs in
-    let middle : List ℕ = encoded (last_line 0 fs) (last_column 0 fs) ms in
-    let back : List ℕ = encoded (last_line (last_line 0 fs) ms) (last_column (last_column 0 fs) ms) bs in
-    ap (λ ns. take (5 * length ms) (drop (5 * length fs) ns)) (in_three fs ms bs)
-    ∙ (ap (take (5 * length ms)) (drop_at front (middle ++ back) (5 * length fs) (encoded-length 0 0 fs)) ∙ take_at middle back (5 * length ms) (encoded-length (last_line 0 fs) (last_column 0 fs) ms))
+numbers_between fs ms bs = grind (arith, in_three, drop_at, encoded-length, take_at)

@@ -1,13 +1,5 @@
 -- The tokens outside of a window, as they are shown in the new text.
-use Rattle.std.proofs.Common.{◌≡◌, ℕ, ◌+◌, ◌-◌, ◌^◌, ◌<◌, ◌≤◌, List, [], ◌∷◌, ◌++◌, length, map, take, get_or, refl, ap, sym, ◌∙◌, arith}
-use Rattle.typst_styles.specs.Tokens.{end_of}
-use Rattle.typst_styles.specs.Windows.{moved}
-use Rattle.typst_styles.specs.declared.tokens.Token.{Token}
-use Rattle.typst_styles.proofs.EachToken.{AllBefore, AllFrom, Between}
-use Rattle.typst_positions.specs.Positions.{position_of}
-use Rattle.typst_positions.specs.declared.columns.Encoding.{Encoding}
-use Rattle.typst_positions.specs.declared.positions.Position.{Position}
-use Rattle.typst_server.specs.Numbers.{Shown, number_of, modifiers_of, shown, shown_each}
+use Rattle.typst_server.proofs.Cited.{◌≡◌, ℕ, ◌+◌, ◌-◌, ◌^◌, ◌<◌, ◌≤◌, List, [], ◌∷◌, ◌++◌, length, map, take, get_or, refl, ap, sym, ◌∙◌, arith, end_of, moved, Token, position_of, Encoding, Shown, number_of, modifiers_of, shown, shown_each, AllBefore, AllFrom, Between}
 use Rattle.typst_server.proofs.SamePlaces.{SameBehind, first_line, follows, lines_to, same_place}
 use Rattle.typst_server.proofs.SplicedNumbers.{down}
 
@@ -50,6 +42,4 @@ pub back-shown : (e : Encoding) (t u : List ℕ) (b c m n : ℕ) → SameBehind 
     → shown_each e u (map (moved m n) ts) ≡ map (down (lines_to t (b - 1)) (lines_to u (c - 1))) (shown_each e t ts)
 back-shown e t u b c m n w by low few few_too long [] v q = refl
 back-shown e t u b c m n w by low few few_too long (x ∷ ts) v q =
-    let one = one-behind e t u b c m n w x by low v.0 q.0.1 few few_too long in
-    let rest = back-shown e t u b c m n w by low few few_too long ts v.1 q.1 in
-    λ i. one i ∷ rest i
+    grind (arith, one-behind e t u b c m n w x by low v.0 q.0.1 few few_too long, back-shown e t u b c m n w by low few few_too long ts v.1 q.1)

@@ -1,23 +1,8 @@
 -- Documents that are closed or lost, and what is said of them.
-use Rattle.std.proofs.Common.{◌≡◌, ℕ, List, [], ◌∷◌, ◌++◌, if◌then◌else◌, Bool, true, false, Option, None, Some, refl, sym, subst}
-use Rattle.std.proofs.lemmas.List.Elements.{All-nil, All-push}
-use Rattle.std.specs.Prelude.{All, String, ℤ}
-use Rattle.std.specs.String.{string_bytes}
+use Rattle.typst_server.proofs.Cited.{◌≡◌, ℕ, List, [], ◌∷◌, ◌++◌, if◌then◌else◌, Bool, true, false, Option, None, Some, refl, sym, subst, arith, All-nil, All-push, string_bytes, Data, TakesEvent, IsUnknown, KeepsOthers, found, Loses, Empties, EmptiesAll, IsNewsReply, ShownErrors, Documents, News, Reply, Running, Standing, All, String, ℤ}
 use Rattle.std.specs.declared.alloc.Global.{Global}
-use Rattle.serde_json.specs.Data.{Data}
 use Rattle.typst_protocol.specs.Parameters as parameters
 use Rattle.typst_server.proofs.Publishing.{takes_news}
-use Rattle.typst_server.specs.Answers.{TakesEvent}
-use Rattle.typst_server.specs.Documents.{IsUnknown, KeepsOthers, found}
-use Rattle.typst_server.specs.Left.{Loses}
-use Rattle.typst_server.specs.Published.{Empties, EmptiesAll, IsNewsReply}
-use Rattle.typst_server.specs.declared.diagnostics.ShownErrors.{ShownErrors}
-use Rattle.typst_server.specs.declared.documents.Documents.{Documents}
-use Rattle.typst_server.specs.declared.reply.News.{News}
-use Rattle.typst_server.specs.declared.reply.Reply.{Reply}
-use Rattle.typst_server.specs.declared.reply.Reply.TheVariants as reply
-use Rattle.typst_server.specs.declared.server.Phase.TheVariants.{Running}
-use Rattle.typst_server.specs.declared.server.Standing.{Standing}
 
 -- where nothing is published nothing has problems
 pub empties_none : (news : News) → news.published.items ≡ [] → EmptiesAll news
@@ -37,14 +22,9 @@ all_pushed P text texts ys false is h one = subst (All P) (sym is) h
 
 -- of a document that isn't open the same is told at each version
 closed_news : (which : ShownErrors) (uri : List ℕ) (version : Option ℤ) (answer : Reply) → IsNewsReply which None uri None answer → IsNewsReply which None uri version answer
-closed_news which uri version reply.Nothing h = tt
-closed_news which uri version (reply.News news) h = h
-closed_news which uri version (reply.Response text) h = absurd h
-closed_news which uri version (reply.Nameless why news) h = absurd h
-closed_news which uri version (reply.Exit status) h = absurd h
+closed_news which uri version answer h = grind arith
 
 -- a document that is closed is told as one that isn't open
 pub takes_closed : (old new : Standing) (params : Option Data) (documents : Documents) (uri : List ℕ) (answer : Reply) → old.phase ≡ Running → new ≡ old → parameters.uri params ≡ Some uri → found uri documents ≡ None
     → IsNewsReply new.errors None uri None answer → TakesEvent old new params documents answer
-takes_closed old new params documents uri answer phase same named closed h =
-    takes_news old new params documents uri answer phase same named (subst (λ k. IsNewsReply new.errors k uri (parameters.version params) answer) (sym closed) (closed_news new.errors uri (parameters.version params) answer h))
+takes_closed old new params documents uri answer phase same named closed h = grind (arith, takes_news, closed_news)

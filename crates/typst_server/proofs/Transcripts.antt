@@ -1,31 +1,12 @@
 -- Transcripts that grow reply by reply.
-use Rattle.std.proofs.Common.{◌≡◌, ℕ, ◌+◌, ◌<◌, ◌≤◌, List, [], ◌∷◌, ◌++◌, length, take, drop, get_or, Option, None, Some, inl, IfSome, Result, Ok, Err, refl, sym, ap, subst, ◌∙◌, append_assoc, append-nil, take-append-drop, arith}
-use Rattle.std.proofs.KnownBytes.{Appends-nil, Appends-trans}
-use Rattle.std.proofs.lemmas.Grind.{flat_map-append}
-use Rattle.std.proofs.lemmas.List.{map-append, map_more, take_all}
-use Rattle.std.specs.Prelude.{String, map}
-use Rattle.std.specs.String.{string_bytes}
+use Rattle.typst_server.proofs.Cited.{◌≡◌, ℕ, ◌+◌, ◌<◌, ◌≤◌, List, [], ◌∷◌, ◌++◌, length, take, drop, get_or, Option, None, Some, IfSome, Result, Ok, refl, sym, ap, subst, ◌∙◌, append_assoc, append-nil, take-append-drop, arith, flat_map-append, map-append, map_more, take_all, string_bytes, Appends, AllByRecursion, Answers, AnswersAfter, Begins, Passes, Reads, Stream, nameless, text_of, warning, AnswersFrame, AreAnswered, Ends, EndsBy, GoesOn, IsAnswered, IsFirst, IsNoExit, IsReason, IsStatus, Sends, Serves, Turns, WentOut, frames_of, sent, told, transcript, warnings, ShownErrors, News, Reply, Server, written, begins-after, begins-front, Loss, Unread, IsHandled, IsNew, String, map}
+use Rattle.std.proofs.KnownBytes.{Appends-trans}
 use Rattle.std.specs.declared.alloc.Global.{Global}
-use Rattle.typst_protocol.specs.Frames.{written}
-use Rattle.std.specs.Io.KnownBytes.{Appends}
-use Rattle.std.specs.List.{AllByRecursion}
-use Rattle.typst_protocol.proofs.Writing.{begins-after, begins-front}
 use Rattle.typst_protocol.specs.Escapes.{mended}
-use Rattle.typst_protocol.specs.Stream.{Answers, AnswersAfter, Begins, Passes, Reads, Stream}
 use Rattle.typst_protocol.specs.declared.frames.reader.End.{End}
 use Rattle.typst_protocol.specs.declared.frames.reader.Frame.{Frame}
 use Rattle.typst_protocol.specs.declared.frames.reader.Frame.TheVariants.{Body, TooLong, OutOfMemory}
-use Rattle.typst_protocol.specs.Bodies.{nameless, text_of, warning}
-use Rattle.typst_protocol.specs.declared.refusal.Loss.{Loss}
-use Rattle.typst_protocol.specs.declared.refusal.Unread.{Unread}
-use Rattle.typst_protocol.specs.declared.refusal.Unread.TheVariants as unread
-use Rattle.typst_server.specs.Sessions.{IsHandled, IsNew, LosesAll}
-use Rattle.typst_server.specs.Transcript.{AnswersFrame, AreAnswered, Ends, EndsBy, GoesOn, IsAnswered, IsFirst, IsNoExit, IsReason, IsStatus, Sends, Serves, Turns, WentOut, frames_of, sent, told, transcript, warnings}
-use Rattle.typst_server.specs.declared.diagnostics.ShownErrors.{ShownErrors}
-use Rattle.typst_server.specs.declared.reply.News.{News}
-use Rattle.typst_server.specs.declared.reply.Reply.{Reply}
 use Rattle.typst_server.specs.declared.reply.Reply.TheVariants as reply
-use Rattle.typst_server.specs.declared.server.Server.{Server}
 use Rattle.typst_server.specs.declared.streams.Ended.{Ended}
 use Rattle.typst_server.specs.declared.streams.Ended.TheVariants as ended
 
@@ -59,19 +40,7 @@ out-after a b c xs ys ended.NotWritten front back = begins-after a b c xs ys fro
 out-after a b c xs ys ended.GaveUp front back = Appends-trans a b c xs ys front back
 
 reason-after : (rest : List ℕ) (xs ys : List Reply) (why : Ended) → AllByRecursion IsNoExit xs → IsReason why rest ys → IsReason why rest (xs ++ ys)
-reason-after rest xs ys (ended.Input end) on h = (h.0, on-append xs ys on h.1)
-reason-after rest xs ys (ended.Exit status) on h =
-    record {
-      before = xs ++ h.before;
-      last = ap (λ zs. xs ++ zs) h.last ∙ sym (append_assoc xs h.before (reply.Exit status ∷ []));
-      on = on-append xs h.before on h.on;
-    }
-reason-after rest xs ys ended.NotWritten on h = on-append xs ys on h
-reason-after rest xs ys ended.GaveUp on h = on-append xs ys on h
-
--- nothing is answered before the first frame
-pub none-so_far : (server : Server) (stream : List ℕ) (left old : Option (List ℕ)) → left ≡ Some stream → SoFar server server stream old old left
-none-so_far server stream left old h = record { answers = []; rest = stream; answered = (refl, refl); on = tt; out = Appends-nil old; behind = h }
+reason-after rest xs ys why on h = grind (arith, on-append, append_assoc)
 
 -- what ends behind some replies ends
 pub ends-behind : (from mid to : Server) (stream : List ℕ) (a b c left : Option (List ℕ)) (why : Ended) → SoFar from mid stream a b left → IfSome left (λ rest. Ends mid to rest b c why) → Ends from to stream a c why
@@ -100,34 +69,19 @@ more-so_far from mid to stream a b c left next before h =
       behind = g.behind;
     }
 
--- what was answered when it is given up
-pub gives-up : (from to : Server) (stream : List ℕ) (a b left : Option (List ℕ)) → SoFar from to stream a b left → Ends from to stream a b ended.GaveUp
-gives-up from to stream a b left before = record { answers = before.answers; rest = before.rest; answered = before.answered; out = before.out; reason = before.on }
-
--- the reply to a frame that was read is one to its body
-unread-handled : (old new : Server) (body : List ℕ) (answer : Reply) → LosesAll old new unread.OutOfMemory answer → IsHandled old new body answer
-unread-handled old new body answer h =
-    subst (IsHandled old new body) (sym h.reply) (record { reply = (inl refl, h.emptied, h.standing); documents = inl (tt, h.lost); warned = h.warned; tokens = h.tokens })
-
 answered-of : (old new : Server) (f : List ℕ × List ℕ) (what : Frame) (held : List ℕ) (left : Option (List ℕ)) (answer : Reply) → Passes f what held left → AnswersFrame old new what held answer → IsAnswered old new f.0 answer
 answered-of old new f Body held left answer p h = record { read = λ _. subst (λ body. IsHandled old new (mended body) answer) p.1 h; too_long = λ long. absurd (omega (arith, p.0, long)) }
 answered-of old new f TooLong held left answer p h = record { read = λ short. absurd (omega (arith, p.0, short)); too_long = λ _. h }
-answered-of old new f OutOfMemory held left answer p h =
-    record { read = λ _. unread-handled old new (mended f.0) answer h; too_long = λ long. absurd (omega (arith, p.0, long)) }
+answered-of old new f OutOfMemory held left answer p h = grind arith
 
 left-of : (f : List ℕ × List ℕ) (what : Frame) (held : List ℕ) (left : Option (List ℕ)) → Passes f what held left → left ≡ Some f.1
-left-of f Body held left p = p.2
-left-of f TooLong held left p = p.1
-left-of f OutOfMemory held left p = p.1
+left-of f what held left p = grind arith
 
 first-of : (old new : Server) (stream held : List ℕ) (what : Frame) (left : Option (List ℕ)) (answer : Reply) → (read : Answers stream (Ok what) held left) → AnswersFrame old new what held answer → IsFirst old stream answer new read.0.1
 first-of old new stream held what left answer read h = record { body = read.0.0; first = read.1; answered = answered-of old new read.0 what held left answer read.2 h }
 
 reason-by : (rest : List ℕ) (answer : Reply) (why : Ended) → EndsBy answer why → IsReason why rest (answer ∷ [])
-reason-by rest answer (ended.Input end) h = absurd h
-reason-by rest answer (ended.Exit status) h = record { before = []; last = ap (λ x. x ∷ []) h; on = tt }
-reason-by rest answer ended.NotWritten h = (h, tt)
-reason-by rest answer ended.GaveUp h = absurd h
+reason-by rest answer why h = grind arith
 
 turn : (from to : Server) (stream held : List ℕ) (what : Frame) (old new left : Option (List ℕ)) (answer : Reply) (result : Option Ended) → Answers stream (Ok what) held left
     → AnswersFrame from to what held answer → Sends answer old new result → Turns from to stream old new left result
@@ -152,36 +106,16 @@ pub turns : (from to : Server) (known left old new : Option (List ℕ)) (held : 
 turns from to None left old new held what answer result read h s = tt
 turns from to (Some stream) left old new held what answer result read h s = turn from to stream held what old new left answer result read h s
 
--- no frame was read
-pub turns-none : (server : Server) (known left old : Option (List ℕ)) (held : List ℕ) (end : End) → IfSome known (λ stream. Answers stream (Err end) held left)
-    → IfSome known (λ stream. Turns server server stream old old left (Some (ended.Input end)))
-turns-none server None left old held end read = tt
-turns-none server (Some stream) left old held end read =
-    record { answers = []; rest = stream; answered = (refl, refl); out = Appends-nil old; reason = (read, tt) }
-
--- the same where the stream may not be known
-pub none-known : (server : Server) (known left old : Option (List ℕ)) → left ≡ known → IfSome known (λ stream. SoFar server server stream old old left)
-none-known server None left old h = tt
-none-known server (Some stream) left old h = none-so_far server stream left old h
-
 pub more-known : (from mid to : Server) (known a b c left next : Option (List ℕ)) → IfSome known (λ stream. SoFar from mid stream a b left) → IfSome left (λ rest. GoesOn mid to rest b c next)
     → IfSome known (λ stream. SoFar from to stream a c next)
-more-known from mid to None a b c left next before h = tt
-more-known from mid to (Some stream) a b c left next before h = more-so_far from mid to stream a b c left next before h
+more-known from mid to known a b c left next before h = grind (arith, more-so_far)
 
 pub ends-known : (from mid to : Server) (known a b c left : Option (List ℕ)) (why : Ended) → IfSome known (λ stream. SoFar from mid stream a b left) → IfSome left (λ rest. Ends mid to rest b c why)
     → IfSome known (λ stream. Ends from to stream a c why)
-ends-known from mid to None a b c left why before h = tt
-ends-known from mid to (Some stream) a b c left why before h = ends-behind from mid to stream a b c left why before h
+ends-known from mid to known a b c left why before h = grind (arith, ends-behind)
 
 pub gives-up-known : (from to : Server) (known a b left : Option (List ℕ)) → IfSome known (λ stream. SoFar from to stream a b left) → IfSome known (λ stream. Ends from to stream a b ended.GaveUp)
-gives-up-known from to None a b left before = tt
-gives-up-known from to (Some stream) a b left before = gives-up from to stream a b left before
-
--- before the first frame it may be given up
-pub never-began : (server : Server) (known old : Option (List ℕ)) → IfSome known (λ stream. Ends server server stream old old ended.GaveUp)
-never-began server None old = tt
-never-began server (Some stream) old = record { answers = []; rest = stream; answered = (refl, refl); out = Appends-nil old; reason = tt }
+gives-up-known from to known a b left before = grind arith
 
 -- the status by the end, where that was new
 pub serves-known : (which : ShownErrors) (first last : Server) (known old new : Option (List ℕ)) (why : Ended) (status : ℕ) → IsNew which first → IfSome known (λ stream. Ends first last stream old new why) → IsStatus why last.standing.phase status

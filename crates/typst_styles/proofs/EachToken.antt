@@ -1,12 +1,5 @@
 -- What holds of each of some tokens, and of those of a stretch.
-use Rattle.std.proofs.Common.{◌≡◌, ℕ, ◌+◌, ◌-◌, ◌<◌, ◌≤◌, true, List, [], ◌∷◌, ◌++◌, length, take, drop, Option, None, Some, refl, ap, sym, subst, arith, inl, inr, length-take}
-use Rattle.std.specs.Prelude.{slice_range}
-use Rattle.std.specs.declared.ops.Range.{Range}
-use Rattle.std.proofs.lemmas.Bool.{cond_both}
-use Rattle.std.proofs.lemmas.Bool.Decides.{leb_tells, nat_tests}
-use Rattle.typst_styles.specs.Tokens.{both, continues, end_of, ends_line, lines, merged, merged_after, stretch, token, touches, touching}
-use Rattle.typst_styles.specs.declared.styles.Style.{Style}
-use Rattle.typst_styles.specs.declared.tokens.Token.{Token}
+use Rattle.typst_styles.proofs.Cited.{◌≡◌, ℕ, ◌+◌, ◌-◌, ◌<◌, ◌≤◌, true, List, [], ◌∷◌, ◌++◌, length, Option, None, Some, arith, length-take, Range, cond_both, leb_tells, nat_tests, both, continues, end_of, ends_line, lines, merged, merged_after, stretch, token, touches, touching, Style, Token}
 
 -- ---- each of some tokens
 
@@ -29,9 +22,7 @@ each_so P Q f (t ∷ ts) w = (f t w.0, each_so P Q f ts w.1)
 -- those that a range touches
 pub touching_each : (P Q : Token → Type 0) (range : Range ℕ) → ((t : Token) → P t → touches range t ≡ true → Q t) → (ts : List Token) → Each P ts → Each Q (touching range ts)
 touching_each P Q range f [] w = tt
-touching_each P Q range f (t ∷ ts) w =
-    let rest : Each Q (touching range ts) = touching_each P Q range f ts w.1 in
-    cond_both (touches range t) (t ∷ touching range ts) (touching range ts) (Each Q) (λ e. (f t w.0 e, rest)) (λ e. rest)
+touching_each P Q range f (t ∷ ts) w = let rest : Each Q (touching range ts) = touching_each P Q range f ts w.1 in grind arith
 
 -- what continues a token begins where it ends
 pub begins_there : (t u : Token) → continues t u ≡ true → end_of t ≡ u.start
@@ -46,8 +37,7 @@ after_each P join t (u ∷ us) v w =
     (λ e. (v, after_each P join u us w.0 w.1))
 
 pub merged_each : (P : Token → Type 0) → ((t u : Token) → end_of t ≡ u.start → P t → P u → P (both t u)) → (ts : List Token) → Each P ts → Each P (merged ts)
-merged_each P join [] w = tt
-merged_each P join (t ∷ ts) w = after_each P join t ts w.0 w.1
+merged_each P join ts w = grind (arith, after_each)
 
 -- ---- where they are
 
@@ -83,19 +73,11 @@ piece None a bs = []
 piece (Some s) a bs = lines s a 0 bs
 
 pub piece_between : (b e : ℕ) (o : Option Style) (a : ℕ) (bs : List ℕ) → b ≤ a → a + length bs ≤ e → Between b e (piece o a bs)
-piece_between b e None a bs l m = tt
-piece_between b e (Some s) a bs l m = lines_between b e s a 0 bs l (omega arith)
+piece_between b e o a bs l m = grind (arith, lines_between)
 
 -- a stretch without a byte has no tokens
 pub stretch_none : (text : List ℕ) (a e : ℕ) (o : Option Style) → e ≤ a → stretch text a e o ≡ []
-stretch_none text a e None l = refl
-stretch_none text a e (Some s) l =
-    let nothing : e - a ≡ 0 = omega arith in
-    ap (λ k. lines s a 0 (take k (drop a text))) nothing
+stretch_none text a e o l = grind arith
 
 pub stretch_between : (b e : ℕ) (text : List ℕ) (a z : ℕ) (o : Option Style) → (a < z → b ≤ a) → z ≤ e → Between b e (stretch text a z o)
-stretch_between b e text a z None l m = tt
-stretch_between b e text a z (Some s) l m = elim (leb_tells z a) [
-  | inl past ↦ subst (Between b e) (sym (stretch_none text a z (Some s) past.1)) tt
-  | inr within ↦ lines_between b e s a 0 (slice_range text a z) (l within.1) (omega (arith, m, within.1, length-take (z - a) (drop a text)))
-]
+stretch_between b e text a z o l m = grind (arith, leb_tells, stretch_none, lines_between, length-take)

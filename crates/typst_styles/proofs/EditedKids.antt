@@ -1,19 +1,7 @@
 -- The children of a root of markup, spans aside, and what an edit leaves of them.
-use Rattle.std.proofs.Common.{◌≡◌, ℕ, ◌+◌, ◌-◌, ◌^◌, ◌<◌, ◌≤◌, ◌⊎◌, true, ◌&&◌, not, List, [], ◌∷◌, ◌++◌, length, map, refl, ap, sym, subst, ◌∙◌, arith, inl, inr, append_assoc, length-append}
-use Rattle.std.specs.declared.ops.Range.{Range}
-use Rattle.std.proofs.lemmas.List.{map-append}
-use Rattle.typst_kinds.specs.Head.{bare_head}
+use Rattle.typst_styles.proofs.Cited.{◌≡◌, ℕ, ◌+◌, ◌-◌, ◌^◌, ◌<◌, ◌≤◌, ◌⊎◌, true, List, [], ◌∷◌, ◌++◌, length, map, refl, ap, sym, subst, ◌∙◌, arith, inl, inr, append_assoc, length-append, Range, map-append, bare_head, Forest, none, more, Tree, bare, bare_forest, forest, joined, text_of, trees, joined-append, bytes_of, first_bytes, last_bytes, HasEdge, IsEdit, StartsBefore, StartsBehind, begins_plain, is_edge, bare_joined, bare_leaf, bare_text, IsEdge, edge}
 use Rattle.typst_kinds.specs.declared.kind.SyntaxKind.TheVariants as kind
-use Rattle.typst_tree.specs.Tree.{Forest, none, more, Tree, bare, bare_forest, forest, joined, text_of, trees}
-use Rattle.typst_tree.proofs.ReplacesChildren.{joined-append}
 use Rattle.typst_tree.proofs.SpansAside.{forest_bare, trees_forest}
-use Rattle.typst_highlight.specs.Edges.{begins_plain, is_edge}
-use Rattle.typst_highlight.specs.RootEdits.{bytes_of, first_bytes, last_bytes}
-use Rattle.typst_highlight.specs.Rules.{is_dot, is_name}
-use Rattle.typst_highlight.specs.Walk.{tree_of}
-use Rattle.typst_highlight.proofs.BareRows.{bare_joined, bare_leaf, bare_text}
-use Rattle.typst_highlight.proofs.BeforeEdges.{IsEdge, edge}
-use Rattle.typst_styles.specs.Windows.{HasEdge, IsEdit, StartsBefore, StartsBehind}
 use Rattle.typst_styles.proofs.TokensApart.{list_length}
 
 -- ---- bytes of trees
@@ -115,8 +103,7 @@ bare_bytes : (ts : List Tree) → bytes_of (map bare ts) ≡ bytes_of ts
 bare_bytes ts = ap (λ f. length (joined f)) (forest_bare ts) ∙ ap length (bare_joined (forest ts))
 
 bare_first : (ts : List Tree) → first_bytes (map bare ts) ≡ first_bytes ts
-bare_first [] = refl
-bare_first (t ∷ ts) = ap length (bare_text t)
+bare_first ts = grind (arith, bare_text)
 
 bare_last : (ts : List Tree) → last_bytes (map bare ts) ≡ last_bytes ts
 bare_last [] = refl
@@ -127,25 +114,12 @@ bare_three : (xs ys zs : List Tree) → bare_forest (forest (xs ++ (ys ++ zs))) 
 bare_three xs ys zs = sym (forest_bare (xs ++ (ys ++ zs))) ∙ ap forest (simp map-append)
 
 pub edited : {text was_text : List ℕ} {was now : Tree} {read : Range ℕ} → IsEdit text was_text was now read → Edited text was_text was now read
-edited w =
-    let e = w.edit in
-    record {
-      front = map bare e.front;
-      old = map bare e.old;
-      new = map bare e.new;
-      back = map bare e.back;
-      before = record { whole = w.whole_was; few = w.few_was; kind = e.kind_was; own = e.text_was; kids = e.before ∙ bare_three e.front e.old e.back };
-      after = record { whole = w.whole_now; few = w.few_now; kind = e.kind_now; own = e.text_now; kids = e.after ∙ bare_three e.front e.new e.back };
-      starts = omega (arith, bare_bytes e.front, e.starts);
-      begins = omega (arith, bare_bytes e.front, bare_first e.new, e.begins);
-      ends = omega (arith, bare_bytes e.front, bare_bytes e.new, bare_last e.new, e.ends);
-    }
+edited w = grind (arith, bare_three, bare_bytes, bare_first, bare_last)
 
 -- ---- an edge among the children
 
 plain_bare : (f : Forest) → begins_plain (bare_forest f) ≡ begins_plain f
-plain_bare none = refl
-plain_bare (more h ks r) = ap (λ l. l && (not (is_name h.kind) && not (is_dot h.kind))) (bare_leaf (tree_of h ks))
+plain_bare f = grind arith
 
 bare_edge : (t : Tree) → is_edge t ≡ true → IsEdge (bare t)
 bare_edge t e = edge (bare t) (cc (bare_leaf t, plain_bare t.kids))

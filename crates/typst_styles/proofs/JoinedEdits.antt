@@ -1,10 +1,5 @@
 -- Two edits of a root's children in a row are one edit.
-use Rattle.std.proofs.Common.{◌≡◌, ℕ, ◌+◌, ◌-◌, ◌≤◌, List, [], ◌∷◌, ◌++◌, length, refl, ap, sym, subst, ◌∙◌, arith, inl, inr, append_assoc, append-nil}
-use Rattle.std.specs.Prelude.{min}
-use Rattle.std.specs.declared.ops.Range.{Range}
-use Rattle.typst_tree.specs.Tree.{Tree, bare_forest}
-use Rattle.typst_highlight.specs.RootEdits.{bytes_of, first_bytes, last_bytes}
-use Rattle.typst_styles.specs.Windows.{IsOfBoth}
+use Rattle.typst_styles.proofs.Cited.{◌≡◌, ℕ, ◌+◌, ◌-◌, ◌≤◌, List, [], ◌∷◌, ◌++◌, length, refl, ap, sym, subst, ◌∙◌, arith, inl, inr, append_assoc, append-nil, min, Range, Tree, bare_forest, bytes_of, first_bytes, last_bytes, IsOfBoth}
 use Rattle.typst_styles.proofs.EditedKids.{Edited, IsOf, bare_twice, bytes_append, bytes_is, edited, last_append, last_later, parted, same_kids}
 
 -- ---- what both edits leave
@@ -29,13 +24,11 @@ record Backs (b1 b2 n2 : List Tree) (len end : ℕ) : Type 0 where
   ends : (less : List Tree) → len ≤ bytes_of back + (end + last_bytes (less ++ (n2 ++ second)))
 
 first_front : (xs ys : List Tree) → first_bytes xs ≤ first_bytes (xs ++ ys)
-first_front [] ys = omega arith
-first_front (t ∷ xs) ys = omega arith
+first_front xs ys = grind arith
 
 begins_both : (f1 n1 b1 f2 n2 ending rest between : List Tree) (s1 s2 : ℕ) → n1 ++ b1 ≡ between ++ rest → bytes_of f2 ≡ bytes_of f1 + bytes_of between → s1 ≤ bytes_of f1 + first_bytes n1 → s2 ≤ bytes_of f2 + first_bytes n2
     → min s1 s2 ≤ bytes_of f1 + first_bytes (between ++ (n2 ++ ending))
-begins_both f1 n1 b1 f2 n2 ending rest [] s1 s2 e long first second = omega (arith, first_front n2 ending)
-begins_both f1 n1 b1 f2 n2 ending rest (t ∷ between) s1 s2 e long first second = omega (arith, first_front n1 b1, ap first_bytes e)
+begins_both f1 n1 b1 f2 n2 ending rest between s1 s2 e long first second = grind (arith, first_front)
 
 fronts : {one two three : List ℕ} {a b c : Tree} {r1 r2 : Range ℕ} (w : Edited two one a b r1) (v : Edited three two b c r2) → Fronts w.front v.front v.new (min r1.start r2.start)
 fronts {r1 = r1} {r2 = r2} w v =
@@ -73,8 +66,7 @@ ends_first : (f1 n1 b1 f2 o2 n2 b2 between less : List Tree) (e1 e2 before after
 ends_first f1 n1 b1 f2 o2 n2 b2 [] less e1 e2 before after front back long_before long_after first second end high_first high_second = omega (arith, last_own less n2, ap bytes_of back)
 ends_first f1 n1 b1 f2 o2 n2 b2 (t ∷ between) less e1 e2 before after front back long_before long_after first second end high_first high_second =
     let last : last_bytes (f1 ++ n1) ≡ last_bytes (t ∷ between) = ap last_bytes front ∙ last_later (f2 ++ o2) t between in
-    let here : last_bytes (less ++ (n2 ++ t ∷ between)) ≡ last_bytes (t ∷ between) = ap last_bytes (sym (append_assoc less n2 (t ∷ between))) ∙ last_later (less ++ n2) t between in
-    omega (arith, last_append f1 n1)
+    grind (arith, append_assoc, last_later, last_append)
 
 backs : {one two three : List ℕ} {a b c : Tree} {r1 r2 : Range ℕ} (w : Edited two one a b r1) (v : Edited three two b c r2) (end : ℕ) → length three - (length two - r1.end) ≤ end → r2.end ≤ end → Backs w.back v.back v.new (length three) end
 backs {two = two} {three = three} {r1 = r1} {r2 = r2} w v end high_first high_second =

@@ -1,13 +1,13 @@
 -- From what a contract promises to the lemma behind it:
 --   edit_between                                DataEditsMade: made_by_ends, front_differs
---   add_lines                                   TokenLines: lines_ended, lines_going, lines_over
+--   add_lines                                   TokenLines: lines_ended, lines_going
 --   line_tokens                                 TokenLines: stretch-added
 --   semantic_tokens: clause ordered             TokenOrder: stretches-ordered, touching-ordered, merged-ordered
 --   Row::pass_to                                SoughtRows: whole_is, on_is; SoughtSteps: from_near, by TokensTouching: row_from
---   Row: take, pass                             SoughtRows: takes, has_place; passes, left_after; fewer
---   Row::seek                                   SoughtRows: takes_none; SoughtSteps: sought, sought_fewer; skipped, over, by TokensTouching: node_ended, row_begun
+--   Row: take, pass                             SoughtRows: takes; passes, left_after; fewer
+--   Row::seek                                   SoughtSteps: sought, sought_fewer; skipped, over, by TokensTouching: node_ended, row_begun
 --   enter, take_next, tokens_near               SoughtSteps: entered; taken, dropped; begun, popped_left, popped_rows, popped_steps
---   tokens_near: the root                       SoughtRows: top_is, whole_from; top_tokens, by TokensByNode: by_node
+--   tokens_near: the root                       SoughtRows: top_is; top_tokens, by TokensByNode: by_node
 --   token_window                                WindowEdges: begins_before, window_is
 --   nodes_before                                WindowEdges: ended
 --   last_edge, edge_after                       WindowEdges: bytes_with; begins_one; ends_one
@@ -19,10 +19,11 @@
 --   renewed_tokens                              RenewedTokens: renewed
 --   TokenList::replaced, count_before           TokenLists: list_replaced; parts_early, parts_late
 --   count_before, count_moved                   RenewedTokens: parting, parted
---   token_at, settle                            TokenLists: token_settled, token_moved; settled_all, settled_some
+--   token_at, settle                            TokenLists: token_settled, token_moved; settled_some
 --   read_by_both                                JoinedEdits: of_both, by EditedKids: edited, parted
 --   tokens_outside                              RenewedTokens: outside
 -- For `typst_server`: tokens_ordered, window_shift of RenewedTokens; sides of WindowSides.
+pub mod Cited
 pub mod EachToken
 pub mod DataEditsMade
 pub mod SoughtRows

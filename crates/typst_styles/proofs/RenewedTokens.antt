@@ -1,19 +1,7 @@
 -- The tokens that an edit leaves as they were, picked from all by where they begin.
-use Rattle.std.proofs.Common.{◌≡◌, ℕ, zero, suc, ◌+◌, ◌-◌, ◌%◌, ◌^◌, ◌<◌, ◌≤◌, max, true, false, List, [], ◌∷◌, ◌++◌, length, map, take, drop, get_or, refl, ap, sym, subst, ◌∙◌, arith, inl, inr, append_assoc, length-append, length-drop, length-take-le, take_at, drop_at}
-use Rattle.std.specs.Prelude.{nat_lt}
+use Rattle.typst_styles.proofs.Cited.{◌≡◌, ℕ, zero, suc, ◌+◌, ◌-◌, ◌%◌, ◌^◌, ◌<◌, ◌≤◌, max, true, false, List, [], ◌∷◌, ◌++◌, length, map, take, drop, get_or, refl, ap, sym, subst, ◌∙◌, arith, inl, inr, append_assoc, length-append, length-drop, length-take-le, take_at, drop_at, Range, ltb-false, ltb-true, nat_tests, take-append-drop, IsPartitionedBy-ltb, Tree, text_of, AreOutside, AreRenewed, IsOutside, IsParted, begun_before, begun_from, carried, replaced, AreOrdered, all_tokens, tokens_in, touching, IsEdit, IsWindow, Stays, moved, range_of, Token, Outside, nat_lt}
 use Rattle.std.specs.List.{AllWithin}
 use Rattle.std.specs.List.Sorted.{IsPartitionPoint, IsPartitionedBy}
-use Rattle.std.specs.declared.ops.Range.{Range}
-use Rattle.std.proofs.lemmas.Bool.{ltb-false, ltb-true}
-use Rattle.std.proofs.lemmas.Bool.Decides.{nat_tests}
-use Rattle.std.proofs.lemmas.List.{take-append-drop}
-use Rattle.std.proofs.lemmas.List.Sorted.{IsPartitionedBy-ltb}
-use Rattle.typst_tree.specs.Tree.{Tree, text_of}
-use Rattle.typst_styles.specs.Renewed.{AreOutside, AreRenewed, IsOutside, IsParted, begun_before, begun_from, carried, replaced}
-use Rattle.typst_styles.specs.Tokens.{AreOrdered, all_tokens, tokens_in, touching}
-use Rattle.typst_styles.specs.Windows.{IsEdit, IsWindow, Stays, moved, range_of}
-use Rattle.typst_styles.specs.declared.renewed.Outside.{Outside}
-use Rattle.typst_styles.specs.declared.tokens.Token.{Token}
 use Rattle.typst_styles.proofs.EachToken.{AllFrom, AllUnder, each_both, each_of, each_so, merged_each, touching_each}
 use Rattle.typst_styles.proofs.EditedKids.{at_end, bytes_append, bytes_is, edited}
 use Rattle.typst_styles.proofs.TokenOrder.{merged-ordered, touching-ordered}
@@ -33,12 +21,10 @@ line_from text root m b w line =
     merged_each (λ (t : Token). m ≤ t.start) (λ t u at v w. v) (touching (range_of m b) (all_tokens text root)) (touching_from m b (length text) (all_tokens text root) (parted_at text root m w line.0 line.1))
 
 start_from : (text : List ℕ) (root : Tree) (m b : ℕ) → text ≡ text_of root → AtLine text m → AllFrom m (tokens_in (range_of m b) text root)
-start_from text root m b w (inl zero_is) = each_of (λ (t : Token). m ≤ t.start) (λ t. omega (arith, zero_is)) (tokens_in (range_of m b) text root)
-start_from text root m b w (inr line) = line_from text root m b w line
+start_from text root m b w h = grind (arith, each_of, line_from)
 
 pub end_from : (text : List ℕ) (root : Tree) (m : ℕ) → text ≡ text_of root → AtEndLine text m → AllFrom m (tokens_in (range_of m (length text)) text root)
-end_from text root m w (inl whole) = subst (AllFrom m) (sym (no_end text root m w whole)) tt
-end_from text root m w (inr line) = line_from text root m (length text) w line
+end_from text root m w h = grind (arith, no_end, line_from)
 
 -- they are in order
 pub tokens_ordered : (text : List ℕ) (root : Tree) (range : Range ℕ) → AreOrdered 0 (tokens_in range text root)
@@ -67,8 +53,7 @@ carried_moved : (from to m n e : ℕ) (ts : List Token) → from < 2 ^ 64 → m 
 carried_moved from to m n e [] small low by few v w = refl
 carried_moved from to m n e (t ∷ ts) small low by few v w =
     let same : (t.start + (to + (2 ^ 64 - from)) % 2 ^ 64) % 2 ^ 64 ≡ t.start - m + n = omega (arith, v.0, w.0) in
-    let rest = carried_moved from to m n e ts small low by few v.1 w.1 in
-    λ i. (record t { start = same i }) ∷ rest i
+    grind (arith, carried_moved from to m n e ts small low by few v.1 w.1)
 
 -- ---- the law
 
@@ -172,10 +157,7 @@ halves_from f byte (t ∷ ts) zero h = (ltb-false (f t).start byte (h 0 t (omega
 halves_from f byte (t ∷ ts) (suc i) h = halves_from f byte ts i (λ k d lo hi. h (suc k) d (omega arith) (omega arith))
 
 pub parted_by : (byte : ℕ) (ts : List Token) (i : ℕ) → AllUnder byte (take i ts) → AllFrom byte (drop i ts) → IsParted byte ts i
-parted_by byte ts i v w = record {
-  before = sym (all_begun byte (take i ts) (drop i ts) v w) ∙ ap (begun_before byte) (take-append-drop i ts);
-  behind = sym (all_behind byte (take i ts) (drop i ts) v w) ∙ ap (begun_from byte) (take-append-drop i ts);
-}
+parted_by byte ts i v w = grind (arith, all_begun, take-append-drop, all_behind)
 
 pub parted : (f : Token → Token) (byte : ℕ) (ts : List Token) (i : ℕ) → Halves f byte ts i → IsParted byte (map f ts) i
 parted f byte ts i h = parted_by byte (map f ts) i (halves_under f byte ts i h.0) (halves_from f byte ts i h.1)
@@ -196,13 +178,8 @@ pub put_moved : (f : Token → Token) (xs ys zs : List Token) (i j k : ℕ) → 
 put_moved f xs ys zs i j k h behind put =
     let front = take i xs in
     let size : length (front ++ ys) ≡ k = omega (arith, length-append front ys, length-take-le i xs h, behind) in
-    cc
-    (put, append_assoc front ys (drop j xs), take_at (front ++ ys) (drop j xs) k size, drop_at (front ++ ys) (drop j xs) k size, append_assoc front ys (map f (drop j xs)))
+    grind (arith, append_assoc, take_at, drop_at)
 
 pub put_between : (start end to : ℕ) (was made whole : List Token) (first last at : ℕ) → first ≤ length was → last ≤ length was → (AreOrdered 0 was → IsParted start was first) → (AreOrdered 0 was → IsParted end was last)
     → at ≡ max last first → whole ≡ take first was ++ (made ++ map (carried end to) (drop at was)) → AreOrdered 0 was → start ≤ end → whole ≡ replaced start end to made was
-put_between start end to was made whole first last at within within_last one two at_is whole_is ordered le =
-    let here = one ordered in
-    let there = two ordered in
-    let last_is : at ≡ last = at_is ∙ later_is start end was first last le within within_last here there in
-    whole_is ∙ (ap (λ n. take first was ++ (made ++ map (carried end to) (drop n was))) last_is ∙ (λ i. here.before i ++ (made ++ map (carried end to) (there.behind i))))
+put_between start end to was made whole first last at within within_last one two at_is whole_is ordered le = grind (arith, later_is)

@@ -1,27 +1,9 @@
 -- The rows of a walk for tokens.
-use Rattle.std.proofs.Common.{◌≡◌, ℕ, zero, suc, ◌+◌, ◌<◌, true, List, [], ◌∷◌, ◌++◌, length, map, take, drop, Option, None, Some, refl, ap, sym, subst, ◌∙◌, arith, append_assoc, append-nil, length-append}
-use Rattle.typst_tree.specs.Tree.{Forest, none, more, Tree, count, forest, places, preorder, trees}
-use Rattle.typst_tree.specs.Walks.{numbers}
+use Rattle.typst_styles.proofs.Cited.{◌≡◌, ℕ, zero, suc, ◌+◌, ◌<◌, List, [], ◌∷◌, ◌++◌, length, map, take, drop, Option, Some, refl, ap, sym, subst, ◌∙◌, arith, append_assoc, append-nil, length-append, Forest, none, more, Tree, count, forest, places, preorder, trees, MatchOption, kids_are, tree_of, behind, after, is_end, AreRows, Below, IsRow, IsSpot, IsTop, IsWhole, Passes, Standing, Takes, first_number, left_of, left_of_all, node, number, of_spot, row, steps_all, steps_left, all_tokens, numbers, linked, left, Boundary, alone, here, steps, Row, Spot}
 use Rattle.typst_tree.specs.Steps.{At, at, children}
-use Rattle.typst_tree.specs.Linked.{linked, left}
-use Rattle.typst_tree.specs.declared.boundary.Boundary.{Boundary}
 use Rattle.typst_tree.specs.declared.linked.LinkedNode.{LinkedNode}
-use Rattle.std.specs.Prelude.{MatchOption}
-use Rattle.typst_tree.proofs.Boundaries.{kids_are}
 use Rattle.typst_tree.proofs.Siblings.{drop_numbers}
 use Rattle.typst_tree.proofs.WalksInPreorder.{length_places}
-use Rattle.typst_highlight.specs.Walk.{tree_of}
-use Rattle.typst_highlight.proofs.Rows.{alone, here}
-use Rattle.typst_names.specs.Bytes.{behind, inner}
-use Rattle.typst_names.specs.Contexts.{after}
-use Rattle.typst_names.specs.Names.{is_end}
-use Rattle.typst_names.specs.RoleRows.{steps}
-use Rattle.typst_names.specs.declared.contexts.Context.TheVariants as context
-use Rattle.typst_styles.specs.Seeking.{AreRows, Below, IsRow, IsSpot, IsTop, IsWhole, Opens, Passes, Standing, Takes, first_number, left_of, left_of_all, node, number, of_spot, row, steps_all, steps_left}
-use Rattle.typst_styles.specs.Tokens.{all_tokens}
-use Rattle.typst_styles.specs.declared.seeking.Row.{Row}
-use Rattle.typst_styles.specs.declared.seeking.Spot.{Spot}
-use Rattle.typst_styles.specs.declared.tokens.Token.{Token}
 use Rattle.typst_styles.proofs.TokensByNode.{by_node}
 
 -- ---- nodes at their places
@@ -87,39 +69,14 @@ pub record Taken (w v : Row) (t : Tree) (ts : List Tree) (s : Spot) : Type 0 whe
   pub is_last : s.is_last ≡ is_end (forest ts)
 
 pub passes : (root : Tree) (w v : Row) (t : Tree) (ts : List Tree) → IsRow root w → Passed w v t ts → Passes root w v
-passes root w v t ts is k =
-    let n : ℕ = number w in
-    let m : ℕ = n + (1 + count t.kids) in
-    let same : n + 1 + count t.kids ≡ m = omega arith in
-    let rest : left v.places ≡ map (at root) (numbers m (forest v.nodes.now)) = cc (k.placed, is.places, k.were, same, k.later) in
-    let stands : Standing root n (forest (t ∷ ts)) = subst (λ xs. Standing root n (forest xs)) k.were is.standing in (
-      is_row root m v rest (subst (λ xs. Standing root m (forest xs)) (sym k.later) stands.1.1),
-      λ text. cc (left_from text root m v rest, k.were, k.later, k.end, k.then_in, k.still),
-    )
+passes root w v t ts is k = grind (arith, is_row, left_from)
 
 -- the places that are left after the first, whether there is one or not
 pub left_after : (ps qs : List At) (o : Option LinkedNode) → MatchOption o ((ps ≡ []) × (qs ≡ [])) (λ x. ps ≡ linked x ∷ qs) → qs ≡ rest_of ps
-left_after ps qs None h = h.1 ∙ ap rest_of (sym h.0)
-left_after ps qs (Some x) h = ap rest_of (sym h)
+left_after ps qs o h = grind arith
 
 pub takes : (root : Tree) (w v : Row) (t : Tree) (ts : List Tree) (s : Spot) → IsRow root w → Taken w v t ts s → Takes root w (Some s) v
-takes root w v t ts s is k =
-    let n : ℕ = number w in
-    let others = passes root w v t ts is k.passed in
-    let place : linked s.place ≡ at root n = cc (k.placed, is.places, k.passed.were) in
-    let stands : Standing root n (forest (t ∷ ts)) = subst (λ xs. Standing root n (forest xs)) k.passed.were is.standing in
-    let num : (linked s.place).number ≡ n = ap (λ (a : At). a.number) place in
-    let alone_it : Standing root n (more t.head t.kids none) = (stands.0, (stands.1.0, tt)) in
-    let spot : IsSpot root s = record {
-      place = place ∙ ap (at root) (sym num);
-      standing = subst (λ j. Standing root j (more s.node.node.now.head s.node.node.now.kids none)) (sym num) (subst (λ (u : Tree). Standing root n (more u.head u.kids none)) (sym k.tree) alone_it);
-    } in (
-      spot,
-      (
-        others.0,
-        λ text. cc (others.1 text, k.passed.were, num, k.start, k.around, k.role_in, k.is_last, k.tree),
-      ),
-    )
+takes root w v t ts s is k = grind arith
 
 pub fewer : (were kept : List Tree) (kids : Forest) (t : Tree) (ts : List Tree) → were ≡ t ∷ ts → kids ≡ t.kids → kept ≡ ts → 1 + steps kids + (1 + steps (forest kept)) < 1 + steps (forest were)
 fewer were kept kids t ts e f g = omega (arith, ap (λ xs. steps (forest xs)) e, ap steps f, ap (λ xs. steps (forest xs)) g)
@@ -127,13 +84,6 @@ fewer were kept kids t ts e f g = omega (arith, ap (λ xs. steps (forest xs)) e,
 none_left : (ts : List Tree) → length ts ≡ 0 → ts ≡ []
 none_left [] e = refl
 none_left (t ∷ ts) e = absurd (omega arith)
-
-pub takes_none : (root : Tree) (w : Row) → length w.nodes.now ≡ 0 → (text : List ℕ) → left_of text root w ≡ []
-takes_none root w e = λ text. ap (λ ts. row text root (number w) w.start w.around w.context (forest ts)) (none_left w.nodes.now e)
-
--- where a node is left there is a place for it
-pub has_place : (root : Tree) (w : Row) (t : Tree) (ts : List Tree) → IsRow root w → w.nodes.now ≡ t ∷ ts → left w.places ≡ [] → ⊥
-has_place root w t ts is e f = cc (f, is.places, e)
 
 -- ---- the rows
 
@@ -156,17 +106,13 @@ rows_popped root (v ∷ ws) w are = let rest = rows_popped root ws w are.1 in ((
 -- ---- the children of a node
 
 below_from : (root : Tree) (s : Spot) (w : Row) → IsSpot root s → Below s w → left w.places ≡ map (at root) (numbers ((linked s.place).number + 1) (forest w.nodes.now))
-below_from root s w is k =
-    let n : ℕ = (linked s.place).number in
-    cc (k.placed, is.place, is.standing.0, k.kids)
+below_from root s w is k = grind arith
 
 pub below_is : (root : Tree) (s : Spot) (w : Row) → IsSpot root s → Below s w → IsRow root w
-below_is root s w is k =
-    is_row root ((linked s.place).number + 1) w (below_from root s w is k) (subst (Standing root ((linked s.place).number + 1)) (sym k.kids) is.standing.1.0)
+below_is root s w is k = grind (arith, is_row, below_from)
 
 pub below_left : (text : List ℕ) (root : Tree) (s : Spot) (w : Row) → IsSpot root s → Below s w → row text root ((linked s.place).number + 1) w.start w.around w.context s.node.node.now.kids ≡ left_of text root w
-below_left text root s w is k =
-    ap (row text root ((linked s.place).number + 1) w.start w.around w.context) (sym k.kids) ∙ left_from text root ((linked s.place).number + 1) w (below_from root s w is k)
+below_left text root s w is k = grind (arith, left_from, below_from)
 
 -- ---- the root
 
@@ -179,16 +125,7 @@ top_is root s k =
     }
 
 pub top_tokens : (text : List ℕ) (root : Tree) (s : Spot) → IsTop root s → of_spot text root s ≡ all_tokens text root
-top_tokens text root s k =
-    let num : (linked s.place).number ≡ 0 = ap (λ (a : At). a.number) k.place in
-    cc (num, k.start, k.around, k.role_in, k.is_last, k.tree, append-nil (node text root 0 0 None context.Value true root), by_node text root)
-
-pub whole_from : (text : List ℕ) (root : Tree) (s : Spot) (w : Row) (old new : List Token) → IsTop root s → Opens text s old new w → IsWhole root w
-whole_from text root s w old new top k = record {
-  placed = k.kids.placed ∙ ap children top.place;
-  kids = k.kids.kids ∙ ap (λ (t : Tree). t.kids) top.tree;
-  start = k.start ∙ (λ i. inner (top.start i) (top.tree i).head);
-}
+top_tokens text root s k = grind (arith, append-nil, by_node)
 
 -- a row of all children of the root
 pub whole_nodes : (root : Tree) (w : Row) → IsWhole root w → trees root.kids ≡ w.nodes.now
@@ -223,8 +160,7 @@ standing_on root n (suc i) (t ∷ ts) s =
     subst (λ m. Standing root m (forest (drop i ts))) same (standing_on root (n + (1 + count t.kids)) i ts s.1.1)
 
 pub on_places : (root : Tree) (b : Boundary) (w v : Row) → IsWhole root w → GoesOn root b w v → left v.places ≡ map (at root) (numbers (number_after b.index w) (forest v.nodes.now))
-on_places root b w v k g =
-    cc (g.placed, k.placed, whole_places root w k, drop_numbers root 1 b.index w.nodes.now, g.later)
+on_places root b w v k g = grind (arith, whole_places, drop_numbers)
 
 pub on_is : (root : Tree) (b : Boundary) (w v : Row) → IsWhole root w → GoesOn root b w v → IsRow root v
 on_is root b w v k g =

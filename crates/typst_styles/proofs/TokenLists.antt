@@ -1,13 +1,6 @@
 -- Tokens of which those behind an index are moved when they are read.
-use Rattle.std.proofs.Common.{◌≡◌, ℕ, zero, suc, ◌+◌, ◌-◌, ◌%◌, ◌^◌, ◌<◌, ◌≤◌, max, List, [], ◌∷◌, ◌++◌, length, map, take, drop, get_or, Some, refl, ap, sym, subst, ◌∙◌, arith, append_assoc, append-nil, drop_at, length-append, length-drop, length-take, length-take-le, take_at}
-use Rattle.std.specs.Prelude.{nat_lt, nat_le, slice_get}
-use Rattle.std.proofs.Math.Seq.{drop-append-add, take-append-add}
-use Rattle.std.proofs.lemmas.Bool.{cond_both, leb-true, ltb-true}
-use Rattle.std.proofs.lemmas.List.{drop-append-le, drop-drop, drop-map, drop_all, length-map, take-append-drop, take-append-le, take-map, take-take, take_all, take_rest}
-use Rattle.typst_styles.specs.Renewed.{IsParted, begun_before, begun_from, carried, replaced, wrapped}
-use Rattle.typst_styles.specs.Tokens.{AreOrdered}
+use Rattle.typst_styles.proofs.Cited.{◌≡◌, ℕ, zero, suc, ◌+◌, ◌-◌, ◌%◌, ◌^◌, ◌<◌, ◌≤◌, max, List, [], ◌∷◌, ◌++◌, length, map, take, drop, get_or, Some, refl, ap, sym, subst, ◌∙◌, arith, append_assoc, drop_at, length-append, length-drop, length-take, length-take-le, take_at, drop-append-add, take-append-add, cond_both, leb-true, ltb-true, drop-append-le, drop-drop, drop-map, length-map, take-append-drop, take-append-le, take-map, take-take, take_all, IsParted, begun_before, begun_from, carried, replaced, wrapped, AreOrdered, Token, nat_lt, nat_le, slice_get}
 use Rattle.typst_styles.specs.TokenList.{IsSettled, in_places}
-use Rattle.typst_styles.specs.declared.tokens.Token.{Token}
 use Rattle.typst_styles.proofs.EachToken.{AllFrom, AllUnder, each_both}
 use Rattle.typst_styles.proofs.RenewedTokens.{ordered_from, parted_by, put_between, put_moved}
 use Rattle.typst_styles.proofs.TokenOrder.{lower}
@@ -93,36 +86,14 @@ parts_late s d byte ts i k fits all first rest = λ w.
 
 -- one is moved twice
 twice : (d by : ℕ) (t : Token) → wrapped ((d + by) % 2 ^ 64) t ≡ wrapped by (wrapped d t)
-twice d by t = ap (λ (n : ℕ). (let moved : Token = record t { start = n } in moved)) (sum t.start)
-  where
-    sum : (n : ℕ) → (n + (d + by) % 2 ^ 64) % 2 ^ 64 ≡ ((n + d) % 2 ^ 64 + by) % 2 ^ 64
-    sum n = omega arith
+twice d by t = grind arith
 
 all_twice : (d by : ℕ) (ts : List Token) → map (wrapped ((d + by) % 2 ^ 64)) ts ≡ map (wrapped by) (map (wrapped d) ts)
 all_twice d by [] = refl
 all_twice d by (t ∷ ts) = λ i. twice d by t i ∷ all_twice d by ts i
 
--- all of them
-pub settled_all : (s d i : ℕ) (old new : List Token) → new ≡ in_places s d old → IsSettled s d i old new 0
-settled_all s d i old new is = record {
-  front = ap (take i) is;
-  back = λ by small. ap (λ n. map (wrapped n) (drop i new)) (under by small) ∙ ap (λ ts. map (wrapped by) (drop i ts)) is;
-}
-  where
-    under : (by : ℕ) → by < 2 ^ 64 → (0 + by) % 2 ^ 64 ≡ by
-    under by small = omega (arith, small)
-
--- the part of them that was moved stands between the others
-pub part_all : (s d : ℕ) (ts part : List Token) → part ≡ map (wrapped d) (take (length ts - s) (drop s ts)) → take s ts ++ (part ++ drop (length ts - s) (drop s ts)) ≡ in_places s d ts
-part_all s d ts part is =
-    let none : drop (length ts - s) (drop s ts) ≡ [] = drop_all (length ts - s) (drop s ts) (omega (arith, length-drop s ts)) in
-    let moved : part ≡ map (wrapped d) (drop s ts) = is ∙ ap (map (wrapped d)) (take_rest ts s) in
-    (λ i. take s ts ++ (moved i ++ none i)) ∙ ap (λ us. take s ts ++ us) (append-nil (map (wrapped d) (drop s ts)))
-
 pub part_some : (s d i : ℕ) (ts part : List Token) → s ≤ i → part ≡ map (wrapped d) (take (i - s) (drop s ts)) → take s ts ++ (part ++ drop (i - s) (drop s ts)) ≡ take s ts ++ (map (wrapped d) (take (i - s) (drop s ts)) ++ drop i ts)
-part_some s d i ts part le is =
-    let rest : drop (i - s) (drop s ts) ≡ drop i ts = drop-drop (i - s) s ts ∙ ap (λ n. drop n ts) (omega (arith, le)) in
-    λ k. take s ts ++ (is k ++ rest k)
+part_some s d i ts part le is = grind (arith, drop-drop)
 
 -- those between two indexes
 pub settled_some : (s d i : ℕ) (old new : List Token) → s ≤ i → i ≤ length old → new ≡ take s old ++ (map (wrapped d) (take (i - s) (drop s old)) ++ drop i old) → IsSettled s d i old new d
@@ -136,13 +107,7 @@ settled_some s d i old new le within is =
     let later : drop n (drop s old) ≡ drop i old = drop-drop n s old ∙ ap (λ k. drop k old) (omega arith) in
     let moved : drop i (in_places s d old) ≡ map (wrapped d) (drop i old) =
     ap (λ k. drop k (in_places s d old)) (sym at) ∙ (drop-append-add xs (map (wrapped d) (drop s old)) n ∙ (drop-map (wrapped d) n (drop s old) ∙ ap (map (wrapped d)) later)) in
-    record {
-      front =
-          ap (take i) whole
-          ∙ (take_at (xs ++ ms) (drop i old) i size
-          ∙ sym (ap (λ k. take k (in_places s d old)) (sym at) ∙ (take-append-add xs (map (wrapped d) (drop s old)) n ∙ ap (λ us. xs ++ us) (take-map (wrapped d) n (drop s old)))));
-      back = λ by small. ap (map (wrapped ((d + by) % 2 ^ 64))) (ap (drop i) whole ∙ drop_at (xs ++ ms) (drop i old) i size) ∙ (all_twice d by (drop i old) ∙ ap (map (wrapped by)) (sym moved));
-    }
+    grind (arith, take_at, take-append-add, take-map, drop_at, all_twice)
 
 -- ---- others in the place of some
 
@@ -158,8 +123,7 @@ list_put s d first at by old new made put left behind low within small w is size
     let long : at ≤ length new = settled_length s d at old new left within w in
     let was : List Token = in_places s d old in
     let front : take first new ≡ take first was = sym (take-take first at new low) ∙ (ap (take first) w.front ∙ take-take first at was low) in
-    put_moved (wrapped ((left + by) % 2 ^ 64)) new made put first at behind (omega (arith, low, long)) size is
-    ∙ (λ i. front i ++ (made ++ w.back by small i))
+    grind (arith, put_moved)
 
 pub list_replaced : (s d start end to first after at : ℕ) (old new made put : List Token) (left by distance behind : ℕ) → first ≤ length old → after ≤ length old → at ≡ max after first → PartsIf start (in_places s d old) first → PartsIf end (in_places s d old) after
     → IsSettled s d at old new left → put ≡ take first new ++ (made ++ drop at new) → behind ≡ first + length made → by ≡ (to + (2 ^ 64 - end)) % 2 ^ 64 → distance ≡ (left + by) % 2 ^ 64

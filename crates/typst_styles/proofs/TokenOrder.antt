@@ -1,15 +1,6 @@
 -- Tokens in the order in which they begin.
-use Rattle.std.proofs.Common.{ℕ, ◌+◌, ◌-◌, ◌≤◌, ◌==◌, List, [], ◌∷◌, ◌++◌, length, drop, Option, None, Some, Result, Ok, Err, IfOk, subst, arith, append_assoc, length-take}
-use Rattle.std.specs.Prelude.{slice_range}
-use Rattle.std.specs.declared.ops.Range.{Range}
-use Rattle.std.proofs.lemmas.Bool.{cond_both}
+use Rattle.typst_styles.proofs.Cited.{ℕ, ◌+◌, ◌-◌, ◌≤◌, ◌==◌, List, [], ◌∷◌, ◌++◌, length, drop, Option, None, Some, Result, IfOk, subst, arith, append_assoc, length-take, slice_range, Range, cond_both, Tagged, style_of, AreOrdered, both, continues, ends_line, first_role, lines, merged_after, stretch, stretches, token, touches, touching, Role, Style, Token}
 use Rattle.typst_highlight.specs.Stretches.{AreJoined}
-use Rattle.typst_highlight.specs.declared.stretches.Tagged.{Tagged}
-use Rattle.typst_styles.specs.Styles.{style_of}
-use Rattle.typst_styles.specs.Tokens.{AreOrdered, both, continues, ends_line, first_role, lines, merged_after, stretch, stretches, token, touches, touching}
-use Rattle.typst_names.specs.declared.contexts.Role.{Role}
-use Rattle.typst_styles.specs.declared.styles.Style.{Style}
-use Rattle.typst_styles.specs.declared.tokens.Token.{Token}
 
 -- those from a later byte on are those from an earlier one on
 pub lower : (a b : ℕ) (ts : List Token) → a ≤ b → AreOrdered b ts → AreOrdered a ts
@@ -53,10 +44,8 @@ after-ordered a t (u ∷ us) le h =
     (λ e. (le, after-ordered t.start u us h.0 h.1))
 
 pub merged-ordered : (a : ℕ) (ts : List Token) → AreOrdered a ts → AreOrdered a (merged_after None ts)
-merged-ordered a [] h = tt
-merged-ordered a (t ∷ ts) h = after-ordered a t ts h.0 h.1
+merged-ordered a ts h = grind (arith, after-ordered)
 
 -- what follows for a value
 pub if-ok : {T E : Type 0} (result : Result T E) (P Q : T → Type 0) → ((x : T) → P x → Q x) → IfOk result P → IfOk result Q
-if-ok (Ok x) P Q f h = f x h
-if-ok (Err e) P Q f h = tt
+if-ok result P Q f h = grind arith

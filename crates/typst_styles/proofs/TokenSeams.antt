@@ -1,20 +1,7 @@
 -- No token goes over a line end, so the tokens in a range are those before a line's start and those from there on.
-use Rattle.std.proofs.Common.{◌≡◌, ℕ, suc, ◌+◌, ◌-◌, ◌^◌, ◌<◌, ◌≤◌, ◌⊎◌, true, List, [], ◌∷◌, ◌++◌, length, map, drop, get_or, Option, None, Some, ap, sym, subst, ◌∙◌, arith, refl, inl, inr, length-append, length-take}
-use Rattle.std.specs.Prelude.{slice_range}
-use Rattle.std.proofs.lemmas.Bool.{cond_both}
-use Rattle.std.proofs.lemmas.Bool.Decides.{nat_tests}
-use Rattle.std.proofs.lemmas.List.{get_or-drop, get_or-take}
-use Rattle.typst_tree.specs.Tree.{none, more, Tree, joined, text_of}
+use Rattle.typst_styles.proofs.Cited.{◌≡◌, ℕ, suc, ◌+◌, ◌-◌, ◌^◌, ◌<◌, ◌≤◌, ◌⊎◌, true, List, [], ◌∷◌, ◌++◌, length, map, drop, get_or, Option, None, Some, ap, sym, subst, ◌∙◌, arith, refl, inl, inr, length-append, length-take, slice_range, cond_both, nat_tests, get_or-drop, get_or-take, none, more, Tree, joined, text_of, Tagged, roles, Role, style_of, AreOrdered, all_tokens, both, ends_line, first_role, lines, merged, merged_after, stretch, stretches, token, touching, moved, range_of, Style, Token}
 use Rattle.typst_highlight.specs.Stretches as tagged
-use Rattle.typst_highlight.specs.declared.stretches.Tagged.{Tagged}
-use Rattle.typst_names.specs.Roles.{roles}
 use Rattle.typst_names.specs.declared.contexts.Context.TheVariants as context
-use Rattle.typst_names.specs.declared.contexts.Role.{Role}
-use Rattle.typst_styles.specs.Styles.{style_of}
-use Rattle.typst_styles.specs.Tokens.{AreOrdered, all_tokens, both, ends_line, first_role, lines, merged, merged_after, stretch, stretches, token, touching}
-use Rattle.typst_styles.specs.Windows.{moved, range_of}
-use Rattle.typst_styles.specs.declared.styles.Style.{Style}
-use Rattle.typst_styles.specs.declared.tokens.Token.{Token}
 use Rattle.typst_styles.proofs.EachToken.{AllBefore, AllFrom, Between, Each, each_both, touching_each}
 use Rattle.typst_styles.proofs.TokenOrder.{lower}
 use Rattle.typst_styles.proofs.TokensByNode.{by_node}

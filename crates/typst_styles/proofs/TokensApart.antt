@@ -1,24 +1,7 @@
 -- The tokens on one side of an edge don't depend on what stands on the other.
-use Rattle.std.proofs.Common.{◌≡◌, ℕ, ◌+◌, ◌-◌, ◌^◌, ◌≤◌, List, [], ◌∷◌, ◌++◌, length, map, Option, None, Some, refl, ap, sym, subst, ◌∙◌, arith, inl, inr}
-use Rattle.std.specs.declared.ops.Range.{Range}
-use Rattle.std.proofs.lemmas.Bool.Decides.{nat_tests}
-use Rattle.std.proofs.lemmas.List.{map-append}
-use Rattle.typst_tree.specs.Tree.{Forest, none, more, Tree, forest, joined, text_of}
+use Rattle.typst_styles.proofs.Cited.{◌≡◌, ℕ, ◌+◌, ◌-◌, ◌^◌, ◌≤◌, List, [], ◌∷◌, ◌++◌, length, map, Option, None, refl, ap, sym, subst, ◌∙◌, arith, inl, inr, Range, nat_tests, map-append, Forest, none, more, Tree, forest, joined, text_of, Tag, past, passed, tree_of, within, after, below, role_of, is_end, Context, style_of, lines, touching, moved, Style, Token, spanned, first_tag, IsApart, IsEdge, before_edge}
 use Rattle.typst_highlight.specs.declared.context.Context.{Context as Around}
-use Rattle.typst_highlight.specs.declared.tags.Tag.{Tag}
-use Rattle.typst_highlight.specs.Html.{spanned}
-use Rattle.typst_highlight.specs.Names.{first_tag}
-use Rattle.typst_highlight.specs.Walk.{past, passed, tree_of, within}
-use Rattle.typst_highlight.proofs.BeforeEdges.{IsApart, IsEdge, before_edge}
 use Rattle.typst_highlight.proofs.MovedRows.{Counted, IsMoved, Moved, MovedPlace, behind_edge, counted_below, counted_past, moved_later, moved_tag, moved_within, row_length, tree_length}
-use Rattle.typst_names.specs.Contexts.{after, below, role_of}
-use Rattle.typst_names.specs.Names.{is_end}
-use Rattle.typst_names.specs.declared.contexts.Context.{Context}
-use Rattle.typst_styles.specs.Styles.{style_of}
-use Rattle.typst_styles.specs.Tokens.{lines, touching}
-use Rattle.typst_styles.specs.Windows.{moved}
-use Rattle.typst_styles.specs.declared.styles.Style.{Style}
-use Rattle.typst_styles.specs.declared.tokens.Token.{Token}
 use Rattle.typst_styles.proofs.EachToken.{Between, IsBetween, each_both, piece, piece_between, touching_each}
 use Rattle.typst_styles.proofs.TokensByWalk.{of_kids, of_later, of_tree, own_piece, shown, tag_by}
 use Rattle.typst_styles.proofs.TokensTouching.{aside, behind_others, touching_append}
@@ -102,12 +85,7 @@ round_follows c [] q l = record { parent = refl; outer = refl; ahead = refl; off
 round_follows c (t ∷ xs) q l =
     let total = list_length t xs in
     let w = round_follows (past c t (passed c t (forest (xs ++ q)))) xs q (omega (arith, l, total)) in
-    record {
-      parent = w.parent;
-      outer = w.outer;
-      ahead = w.ahead;
-      offset = omega (arith, l, total, w.offset);
-    }
+    grind arith
 
 -- ---- tokens that are moved
 
@@ -117,8 +95,7 @@ lines_moved m n k a b s (z ∷ bs) l e =
     grind (arith, nat_tests, map-append, lines_moved m n 0 (a + k + 1) (b + k + 1) s bs (omega arith) (omega arith), lines_moved m n (k + 1) a b s bs l e)
 
 piece_moved : (m n a b : ℕ) (o : Option Style) (bs : List ℕ) → m ≤ a → b + m ≡ a + n → piece o b bs ≡ map (moved m n) (piece o a bs)
-piece_moved m n a b None bs l e = refl
-piece_moved m n a b (Some s) bs l e = lines_moved m n 0 a b s bs l e
+piece_moved m n a b o bs l e = grind (arith, lines_moved)
 
 -- trees at another place with the same round them are shown alike
 pub shown_moved : (m n : ℕ) (c d : Around) (u : Option Tag) (x : Context) (f : Forest) → Moved m n c d → Counted c d f → m ≤ c.offset → shown d u x f ≡ map (moved m n) (shown c u x f)

@@ -1,20 +1,8 @@
 -- The tokens of a tree's stretches are those of its nodes.
-use Rattle.std.proofs.Common.{◌≡◌, ℕ, ◌+◌, List, [], ◌++◌, Option, None, refl, sym, ◌∙◌, arith, append_assoc, append-nil}
-use Rattle.std.proofs.lemmas.Bool.Decides.{nat_tests}
-use Rattle.typst_kinds.specs.Head.{Head}
-use Rattle.typst_tree.specs.Tree.{Forest, none, more, Tree, count}
+use Rattle.typst_styles.proofs.Cited.{◌≡◌, ℕ, ◌+◌, List, [], ◌++◌, Option, None, refl, sym, ◌∙◌, arith, append_assoc, append-nil, nat_tests, Head, Forest, none, more, Tree, count, Tagged, Tag, inner, behind, after, below, Context, Role, own, row, tag_in, style_of, all_tokens, stretches}
 use Rattle.typst_highlight.specs.Stretches as tagged
-use Rattle.typst_highlight.specs.declared.stretches.Tagged.{Tagged}
-use Rattle.typst_highlight.specs.declared.tags.Tag.{Tag}
-use Rattle.typst_names.specs.Bytes.{inner, behind}
-use Rattle.typst_names.specs.Contexts.{after, below}
 use Rattle.typst_names.specs.Roles as roles
-use Rattle.typst_names.specs.declared.contexts.Context.{Context}
 use Rattle.typst_names.specs.declared.contexts.Context.TheVariants as context
-use Rattle.typst_names.specs.declared.contexts.Role.{Role}
-use Rattle.typst_styles.specs.Seeking.{own, row, tag_in}
-use Rattle.typst_styles.specs.Styles.{style_of}
-use Rattle.typst_styles.specs.Tokens.{all_tokens, stretches}
 use Rattle.typst_styles.proofs.EachToken.{stretch_none}
 
 -- of a node's own text

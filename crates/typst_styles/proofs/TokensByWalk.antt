@@ -1,31 +1,11 @@
 -- The tokens of a tree by what a walk carries along.
-use Rattle.std.proofs.Common.{◌≡◌, ℕ, ◌+◌, ◌-◌, ◌^◌, ◌≤◌, true, List, [], ◌∷◌, ◌++◌, length, take, drop, Option, None, Some, refl, ap, sym, ◌∙◌, arith, append_assoc, append-nil, length-append}
-use Rattle.std.specs.Prelude.{slice_range}
-use Rattle.std.proofs.Math.Seq.{take-append_seam, drop-append_seam}
-use Rattle.typst_kinds.specs.Head.{Head}
-use Rattle.typst_tree.specs.Tree.{Forest, none, more, Tree, bare_forest, count, joined, places, preorder, text_of}
-use Rattle.typst_tree.specs.Walks.{is_leaf}
+use Rattle.typst_styles.proofs.Cited.{◌≡◌, ℕ, ◌+◌, ◌-◌, ◌^◌, ◌≤◌, true, List, [], ◌∷◌, ◌++◌, length, Option, None, Some, refl, ap, sym, ◌∙◌, arith, append_assoc, append-nil, length-append, slice_range, take-append_seam, drop-append_seam, Head, Forest, none, more, Tree, bare_forest, count, joined, places, preorder, text_of, Tag, past, passed, root_context, tag, tree_of, within, inner, behind, after, below, role_of, is_end, Context, Role, own, row, tag_in, style_of, all_tokens, stretch, Style, Token, is_leaf, spanned, first_tag, bare_later, bare_tag, bare_within}
 use Rattle.typst_highlight.specs.declared.context.Context.{Context as Around}
-use Rattle.typst_highlight.specs.declared.tags.Tag.{Tag}
-use Rattle.typst_highlight.specs.Html.{spanned}
-use Rattle.typst_highlight.specs.Names.{first_tag}
-use Rattle.typst_highlight.specs.Walk.{past, passed, root_context, tag, tree_of, within}
-use Rattle.typst_highlight.proofs.BareRows.{bare_later, bare_tag, bare_within}
 use Rattle.typst_highlight.proofs.Cases.{bool_cases}
 use Rattle.typst_highlight.proofs.Contexts.{Fits, fits_behind, fits_below, fits_root, passed_here}
 use Rattle.typst_highlight.proofs.Rows.{Stand, alone, behind as stand_behind, below as stand_below}
 use Rattle.typst_highlight.proofs.Trees.{tag_law}
-use Rattle.typst_names.specs.Bytes.{inner, behind}
-use Rattle.typst_names.specs.Contexts.{after, below, role_of}
-use Rattle.typst_names.specs.Names.{is_end}
-use Rattle.typst_names.specs.declared.contexts.Context.{Context}
 use Rattle.typst_names.specs.declared.contexts.Context.TheVariants as context
-use Rattle.typst_names.specs.declared.contexts.Role.{Role}
-use Rattle.typst_styles.specs.Seeking.{own, row, tag_in}
-use Rattle.typst_styles.specs.Styles.{style_of}
-use Rattle.typst_styles.specs.Tokens.{all_tokens, lines, stretch}
-use Rattle.typst_styles.specs.declared.styles.Style.{Style}
-use Rattle.typst_styles.specs.declared.tokens.Token.{Token}
 use Rattle.typst_styles.proofs.EachToken.{piece}
 use Rattle.typst_styles.proofs.TokensByNode.{by_node}
 
@@ -57,18 +37,13 @@ of_later c u x t r = shown (past c t (passed c t r)) u (after x t.head.kind) r
 -- ---- they are those of the tree's nodes
 
 slice_here : (text before bs rest : List ℕ) (a e : ℕ) → text ≡ before ++ (bs ++ rest) → a ≡ length before → e ≡ a + length bs → slice_range text a e ≡ bs
-slice_here text before bs rest a e whole at ends =
-    let many : e - a ≡ length bs = omega (arith, ends) in
-    let there : drop a text ≡ bs ++ rest = ap (drop a) whole ∙ (ap (λ m. drop m (before ++ (bs ++ rest))) at ∙ drop-append_seam before (bs ++ rest)) in
-    ap (λ m. take m (drop a text)) many ∙ (ap (take (length bs)) there ∙ take-append_seam bs rest)
+slice_here text before bs rest a e whole at ends = let many : e - a ≡ length bs = omega (arith, ends) in grind (arith, drop-append_seam, take-append_seam)
 
 stretch_piece : (text : List ℕ) (a e : ℕ) (bs : List ℕ) (o : Option Style) → slice_range text a e ≡ bs → stretch text a e o ≡ piece o a bs
-stretch_piece text a e bs None s = refl
-stretch_piece text a e bs (Some style) s = ap (lines style a 0) s
+stretch_piece text a e bs o s = grind arith
 
 no_kids : (text : List ℕ) (root : Tree) (n a : ℕ) (u : Option Tag) (x : Context) (c : Around) (h : Head) (ks : Forest) → is_leaf (tree_of h ks) ≡ true → row text root n a u x ks ≡ shown c u x ks
-no_kids text root n a u x c h none e = refl
-no_kids text root n a u x c h (more g is r) e = absurd (cc)
+no_kids text root n a u x c h ks e = grind arith
 
 -- the text has these trees' texts from a byte on
 pub record Holds (text : List ℕ) (f : Forest) (a : ℕ) (before rest : List ℕ) : Type 0 where
@@ -123,18 +98,10 @@ all_shown text root e l =
 -- ---- they don't depend on spans
 
 bare_end : (f : Forest) → is_end (bare_forest f) ≡ is_end f
-bare_end none = refl
-bare_end (more h ks r) = refl
+bare_end f = grind arith
 
 pub shown_bare : (c : Around) (u : Option Tag) (x : Context) (f : Forest) → shown c u x (bare_forest f) ≡ shown c u x f
 shown_bare c u x none = refl
 shown_bare c u x (more h ks r) =
     let t : Tree = tree_of h ks in
-    let same = bare_tag c t r in
-    let ends = bare_end r in
-    let low = bare_within c t r in
-    let next = bare_later c t r in
-    let kids = shown_bare (within c t r) (tag_by c u t r) (below x h.kind) ks in
-    let later = shown_bare (past c t (passed c t r)) u (after x h.kind) r in
-    (λ i. (piece (style_of (first_tag (spanned (same i)) u) (role_of x h.kind (ends i))) c.offset h.text ++ shown (low i) (first_tag (spanned (same i)) u) (below x h.kind) (bare_forest ks)) ++ shown (next i) u (after x h.kind) (bare_forest r))
-    ∙ (λ i. (own_piece c u x t r ++ kids i) ++ later i)
+    grind (arith, bare_tag c t r, bare_end r, bare_within c t r, bare_later c t r, shown_bare (within c t r) (tag_by c u t r) (below x h.kind) ks, shown_bare (past c t (passed c t r)) u (after x h.kind) r)

@@ -1,21 +1,6 @@
 -- Which tokens of trees a range touches.
-use Rattle.std.proofs.Common.{◌≡◌, ℕ, zero, suc, ◌+◌, ◌-◌, ◌^◌, ◌<◌, ◌≤◌, ◌⊎◌, Bool, List, [], ◌∷◌, ◌++◌, length, take, drop, Option, refl, ap, ◌∙◌, arith, inl, inr, length-append}
-use Rattle.std.specs.declared.ops.Range.{Range}
-use Rattle.std.proofs.lemmas.Bool.Decides.{nat_tests}
-use Rattle.typst_kinds.specs.Head.{Head}
-use Rattle.typst_tree.specs.Tree.{Forest, none, more, Tree, count, forest, joined, saturated}
-use Rattle.typst_highlight.specs.declared.tags.Tag.{Tag}
-use Rattle.typst_highlight.specs.Walk.{tree_of}
-use Rattle.typst_names.specs.Bytes.{inner, behind}
-use Rattle.typst_names.specs.Contexts.{after, below, role_of}
-use Rattle.typst_names.specs.Names.{is_end}
-use Rattle.typst_names.specs.declared.contexts.Context.{Context}
+use Rattle.typst_styles.proofs.Cited.{◌≡◌, ℕ, zero, suc, ◌+◌, ◌-◌, ◌^◌, ◌<◌, ◌≤◌, ◌⊎◌, Bool, List, [], ◌∷◌, ◌++◌, length, take, drop, Option, refl, ap, ◌∙◌, arith, inl, inr, length-append, Range, nat_tests, Head, Forest, none, more, Tree, count, forest, joined, saturated, Tag, tree_of, inner, behind, after, below, role_of, is_end, Context, Role, node, own, row, tag_in, style_of, touching, Token}
 use Rattle.typst_names.specs.declared.contexts.Context.TheVariants as context
-use Rattle.typst_names.specs.declared.contexts.Role.{Role}
-use Rattle.typst_styles.specs.Seeking.{node, own, row, tag_in}
-use Rattle.typst_styles.specs.Styles.{style_of}
-use Rattle.typst_styles.specs.Tokens.{touching}
-use Rattle.typst_styles.specs.declared.tokens.Token.{Token}
 use Rattle.typst_styles.proofs.EachToken.{Between, IsBetween, each_both, stretch_between}
 
 pub touching_append : (range : Range ℕ) (xs ys : List Token) → touching range (xs ++ ys) ≡ touching range xs ++ touching range ys
@@ -71,10 +56,7 @@ row_begun range text root n a u c f l =
 -- trees of which the first so many end by the range's start, where no node changes what names are: the range touches what it touches of the others
 pub row_from : (range : Range ℕ) (text : List ℕ) (root : Tree) (n a : ℕ) (u : Option Tag) (i : ℕ) (ts : List Tree) → (0 < i → a + length (joined (forest (take i ts))) ≤ range.start) → a + length (joined (forest (take i ts))) ≤ 2 ^ 64 - 1
     → touching range (row text root n a u context.Value (forest ts)) ≡ touching range (row text root (n + count (forest (take i ts))) (a + length (joined (forest (take i ts)))) u context.Value (forest (drop i ts)))
-row_from range text root n a u zero ts low few =
-    let number : n ≡ n + 0 = omega arith in
-    let start : a ≡ a + 0 = omega arith in
-    λ j. touching range (row text root (number j) (start j) u context.Value (forest ts))
+row_from range text root n a u zero ts low few = grind arith
 row_from range text root n a u (suc i) [] low few = refl
 row_from range text root n a u (suc i) (t ∷ ts) low few =
     let passed : Forest = forest (take i ts) in

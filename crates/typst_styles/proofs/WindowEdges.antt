@@ -1,19 +1,11 @@
 -- Where the edges of a row of nodes are, node by node.
-use Rattle.std.proofs.Common.{◌≡◌, ℕ, zero, suc, ◌+◌, ◌-◌, ◌<◌, ◌≤◌, ◌⊎◌, true, List, [], ◌∷◌, ◌++◌, length, take, drop, get_or, ap, sym, subst, ◌∙◌, inl, inr, arith, add-one, drop-cons}
-use Rattle.std.proofs.lemmas.Bool.{cases_lt}
-use Rattle.std.proofs.lemmas.List.{take-append-drop, take_more}
-use Rattle.std.specs.declared.ops.Range.{Range}
-use Rattle.typst_tree.specs.Tree.{Forest, Tree, forest, text_of}
-use Rattle.typst_highlight.specs.Edges.{is_edge}
-use Rattle.typst_highlight.specs.RootEdits.{bytes_of}
-use Rattle.typst_styles.specs.Windows.{BeginsEdge, BeginsOne, EndsEdge, EndsOne, FollowsFeed, HasEdge, IsLineAfter, IsWindow, StartsBefore, StartsBehind, range_of}
+use Rattle.typst_styles.proofs.Cited.{◌≡◌, ℕ, zero, suc, ◌+◌, ◌-◌, ◌<◌, ◌≤◌, ◌⊎◌, true, List, [], ◌∷◌, ◌++◌, length, take, drop, get_or, ap, sym, subst, ◌∙◌, inl, inr, arith, add-one, drop-cons, cases_lt, take-append-drop, take_more, Range, Forest, Tree, forest, text_of, bytes_of, BeginsEdge, BeginsOne, EndsEdge, EndsOne, FollowsFeed, HasEdge, IsLineAfter, IsWindow, StartsBefore, StartsBehind, range_of, is_edge}
 use Rattle.typst_styles.proofs.TokensApart.{list_length}
 use Rattle.typst_styles.proofs.EditedKids.{bytes_append}
 
 -- the nodes are those before one, that one, and those after it
 in_parts : (ts : List Tree) (i : ℕ) (d : Tree) → i < length ts → ts ≡ take i ts ++ get_or ts i d ∷ drop (i + 1) ts
-in_parts ts i d l =
-    sym (take-append-drop i ts) ∙ ap (λ rest. take i ts ++ rest) (drop-cons ts i d l ∙ ap (λ n. get_or ts i d ∷ drop n ts) (sym (add-one i)))
+in_parts ts i d l = grind (arith, take-append-drop, drop-cons, add-one)
 
 -- one node more
 pub bytes_more : (ts : List Tree) (i : ℕ) (d : Tree) → i < length ts → bytes_of (take (i + 1) ts) ≡ bytes_of (take i ts) + length (text_of (get_or ts i d))

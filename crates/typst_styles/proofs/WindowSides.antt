@@ -1,10 +1,5 @@
 -- The texts and the tokens on both sides of a window, before an edit and after it.
-use Rattle.std.proofs.Common.{◌≡◌, ℕ, ◌+◌, ◌-◌, ◌^◌, ◌<◌, ◌≤◌, ◌⊎◌, List, [], length, take, drop, ap, sym, subst, arith, inl, inr}
-use Rattle.std.specs.declared.ops.Range.{Range}
-use Rattle.typst_tree.specs.Tree.{Tree, text_of}
-use Rattle.typst_styles.specs.Tokens.{all_tokens, merged, tokens_in, touching}
-use Rattle.typst_styles.specs.Windows.{IsEdit, IsWindow, range_of}
-use Rattle.typst_styles.specs.declared.tokens.Token.{Token}
+use Rattle.typst_styles.proofs.Cited.{◌≡◌, ℕ, ◌+◌, ◌-◌, ◌^◌, ◌<◌, ◌≤◌, ◌⊎◌, List, [], length, take, drop, ap, sym, subst, arith, inl, inr, Range, Tree, text_of, all_tokens, merged, tokens_in, touching, IsEdit, IsWindow, range_of, Token}
 use Rattle.typst_styles.proofs.EachToken.{AllBefore, AllFrom, Between, IsBetween, merged_each, touching_each}
 use Rattle.typst_styles.proofs.EditedKids.{edited}
 use Rattle.typst_styles.proofs.RenewedTokens.{end_from}
@@ -30,9 +25,7 @@ begun_at text root a few w (inr line) =
     merged_each (λ (t : Token). t.start + t.len < a) (λ t u at v w. omega arith) (touching (range_of 0 a) (all_tokens text root)) (touching_before 0 a (length text) (all_tokens text root) (parted_at text root a w line.0 line.1))
 
 rest_is : (text was_text : List ℕ) (was : Tree) (e from : ℕ) → was_text ≡ text_of was → from + length text ≡ e + length was_text → AtEndLine text e → AtEndLine was_text from → (tokens_in (range_of from (length was_text)) was_text was ≡ []) ⊎ (IsFeed text e × IsFeed was_text from)
-rest_is text was_text was e from w shift (inr line) (inr line_was) = inr (line, line_was)
-rest_is text was_text was e from w shift (inl whole) last = inl (no_end was_text was from w (omega arith))
-rest_is text was_text was e from w shift line (inl whole) = inl (no_end was_text was from w whole)
+rest_is text was_text was e from w shift h g = grind (arith, no_end)
 
 pub sides : (text was_text : List ℕ) (was now : Tree) (read window : Range ℕ) (from : ℕ) → IsEdit text was_text was now read → IsWindow now text read window → from + length text ≡ window.end + length was_text → Sides text was_text was window.start window.end from
 sides text was_text was now read window from w is shift =

@@ -1,22 +1,9 @@
 -- What an edit of a root's children leaves of the text and of the tokens outside of its window.
-use Rattle.std.proofs.Common.{◌≡◌, ℕ, ◌+◌, ◌-◌, ◌^◌, ◌<◌, ◌≤◌, ◌⊎◌, List, [], ◌∷◌, ◌++◌, length, map, take, drop, get_or, None, Some, refl, ap, sym, subst, ◌∙◌, arith, inl, inr, append-nil}
-use Rattle.std.specs.declared.ops.Range.{Range}
-use Rattle.std.proofs.Math.Seq.{drop-append-add}
-use Rattle.std.proofs.lemmas.Bool.Decides.{nat_tests}
-use Rattle.std.proofs.lemmas.List.{drop_all, get_or-drop, get_or-take, take-append-le}
+use Rattle.typst_styles.proofs.Cited.{◌≡◌, ℕ, ◌+◌, ◌-◌, ◌^◌, ◌<◌, ◌≤◌, ◌⊎◌, List, [], ◌∷◌, ◌++◌, length, map, take, drop, get_or, None, Some, refl, ap, sym, ◌∙◌, arith, inl, inr, append-nil, Range, drop-append-add, nat_tests, drop_all, get_or-drop, get_or-take, take-append-le, none, more, Tree, forest, joined, text_of, joined-append, bytes_of, root_context, roles, AreOrdered, all_tokens, merged, tokens_in, touching, StartsBefore, StartsBehind, IsWindow, IsEdit, AreKept, InThree, Stays, moved, range_of, Token, joined_root}
 use Rattle.typst_kinds.specs.declared.kind.SyntaxKind.TheVariants as kind
-use Rattle.typst_tree.specs.Tree.{none, more, Tree, forest, joined, text_of}
-use Rattle.typst_tree.proofs.ReplacesChildren.{joined-append}
 use Rattle.typst_highlight.specs.declared.context.Context.{Context as Around}
 use Rattle.typst_highlight.specs.Stretches as tagged
-use Rattle.typst_highlight.specs.RootEdits.{bytes_of}
-use Rattle.typst_highlight.specs.Walk.{root_context}
-use Rattle.typst_highlight.proofs.Outlets.{joined_root}
-use Rattle.typst_names.specs.Roles.{roles}
 use Rattle.typst_names.specs.declared.contexts.Context.TheVariants as context
-use Rattle.typst_styles.specs.Tokens.{AreOrdered, all_tokens, merged, tokens_in, touching}
-use Rattle.typst_styles.specs.Windows.{StartsBefore, StartsBehind, IsWindow, IsEdit, AreKept, InThree, Stays, moved, range_of}
-use Rattle.typst_styles.specs.declared.tokens.Token.{Token}
 use Rattle.typst_styles.proofs.EditedKids.{AtEnd, AtFront, Edited, IsOf, at_end, at_front, bytes_append, bytes_is, edited, joined_is}
 use Rattle.typst_styles.proofs.TokenOrder.{stretches-ordered}
 use Rattle.typst_styles.proofs.TokenSeams.{all_between, merged_moved, parted_at, split}
@@ -82,9 +69,7 @@ none_at_start [] = refl
 none_at_start (t ∷ ts) = grind (arith, nat_tests, none_at_start ts)
 
 pub starts : {text was_text : List ℕ} {was now : Tree} {read : Range ℕ} {at : ℕ} (w : Edited text was_text was now read) → ((at ≡ 0) ⊎ StartsBefore now text read at) → Starts text was_text was now (bytes_of w.front) at
-starts {text} {was_text} {was} {now} w (inl zero_is) =
-    subst (Starts text was_text was now (bytes_of w.front)) (sym zero_is)
-    (record { bound = omega arith; same = refl; line = inl refl; line_was = inl refl; tokens = ap merged (none_at_start (all_tokens text now) ∙ sym (none_at_start (all_tokens was_text was))) })
+starts {text} {was_text} {was} {now} w (inl zero_is) = grind (arith, none_at_start)
 starts {text} {was_text} {at = at} w (inr s) =
     let edge = at_front w s in
     let less : at - 1 < at = omega (arith, s.line.some) in
@@ -196,19 +181,7 @@ line_split : (text : List ℕ) (root : Tree) (a m b : ℕ) → text ≡ text_of 
 line_split text root a m b w l k within few line = split a m b (length text) 0 (all_tokens text root) l k few (omega arith) (all_ordered text root) (parted_at text root m w line.0 line.1)
 
 three : (text : List ℕ) (root : Tree) (a e : ℕ) → text ≡ text_of root → a ≤ e → e ≤ length text → length text ≤ 2 ^ 64 - 1 → AtLine text a → AtEndLine text e → InThree text root a e
-three text root a e w l k few first last = before first ∙ ap (λ ts. tokens_in (range_of 0 a) text root ++ ts) (behind last)
-  where
-    before : AtLine text a → tokens_in (range_of 0 (length text)) text root ≡ tokens_in (range_of 0 a) text root ++ tokens_in (range_of a (length text)) text root
-    before (inl zero_is) =
-        subst (λ z. tokens_in (range_of 0 (length text)) text root ≡ tokens_in (range_of 0 z) text root ++ tokens_in (range_of z (length text)) text root) (sym zero_is)
-        (sym (ap (λ ts. merged ts ++ tokens_in (range_of 0 (length text)) text root) (none_at_start (all_tokens text root))))
-    before (inr line) = line_split text root 0 a (length text) w (omega arith) (omega arith) (omega arith) few line
-
-    behind : AtEndLine text e → tokens_in (range_of a (length text)) text root ≡ tokens_in (range_of a e) text root ++ tokens_in (range_of e (length text)) text root
-    behind (inl whole) =
-        ap (λ z. tokens_in (range_of a z) text root) (sym whole)
-        ∙ (sym (append-nil (tokens_in (range_of a e) text root)) ∙ ap (λ ts. tokens_in (range_of a e) text root ++ ts) (sym (no_end text root e w whole)))
-    behind (inr line) = line_split text root a e (length text) w l k k few line
+three text root a e w l k few first last = grind (arith, none_at_start, line_split, append-nil, no_end)
 
 pub window_law : (text was_text : List ℕ) (was now : Tree) (read window : Range ℕ) (from : ℕ) → IsEdit text was_text was now read → IsWindow now text read window → from + length text ≡ window.end + length was_text → Stays text was_text was now window from
 window_law text was_text was now read window from w is shift =

@@ -1,11 +1,6 @@
 -- What stands ahead of a cursor, seen or gone past in one piece.
-use Rattle.std.proofs.Common.{◌≡◌, ℕ, zero, suc, ◌+◌, max, List, [], ◌∷◌, length, take, if◌then◌else◌, is_none, sym, ap, ◌∙◌, arith, Option}
-use Rattle.std.proofs.lemmas.Str.{encodes-chars}
-use Rattle.std.specs.Prelude.{encode_utf8_all}
-use Rattle.std.specs.Str.{chars, IsUtf8}
-use Rattle.typst_lines.specs.Place.{Place, bytes_ahead, moved, moved_from, scout}
+use Rattle.typst_tokens.proofs.Cited.{◌≡◌, ℕ, zero, suc, ◌+◌, max, List, [], ◌∷◌, length, take, if◌then◌else◌, is_none, sym, ap, ◌∙◌, arith, Option, encodes-chars, encode_utf8_all, chars, IsUtf8, Place, bytes_ahead, moved, moved_from, scout, position, far, Sight, saw, went}
 use Rattle.typst_tokens.specs.Reader.{place}
-use Rattle.typst_tokens.specs.Sight.{position, far, Sight, saw, went}
 use Rattle.typst_tokens.proofs.Sights.{far-none, far-on, peeked}
 use Rattle.typst_tokens.proofs.Words.{moved-moved, scout-on}
 

@@ -1,19 +1,6 @@
 -- A token of code takes at least one character.
-use Rattle.std.proofs.Common.{◌≡◌, ◌≤◌, ℕ, true, slice_get, ◌==◌, ◌||◌, arith, Some}
-use Rattle.std.specs.Char.{is_ascii_digit}
-use Rattle.typst_lines.specs.Classes.{CharClasses}
-use Rattle.typst_lines.specs.Identifiers.{is_id_continue, is_id_start}
-use Rattle.typst_tokens.specs.Code.{code, single, less, with_equals, dots, dot, equals, bang}
-use Rattle.typst_tokens.specs.Identifiers.{ident}
-use Rattle.typst_tokens.specs.Invalid.{foreign, invalid}
-use Rattle.typst_tokens.specs.Numbers.{decimal, dotted, in_base, zero_first, number_token}
-use Rattle.typst_tokens.specs.Strings.{string}
-use Rattle.typst_lines.specs.Place.{Place, scout, passes}
-use Rattle.typst_tokens.specs.Reader.{eaten}
+use Rattle.typst_tokens.proofs.Cited.{◌≡◌, ◌≤◌, ℕ, true, slice_get, ◌==◌, ◌||◌, arith, Some, is_ascii_digit, CharClasses, code, single, less, with_equals, dots, dot, equals, bang, ident, foreign, invalid, decimal, dotted, in_base, zero_first, number_token, string, Place, scout, passes, eaten, sign, label, is_id_continue, is_id_start, Base}
 use Rattle.typst_tokens.proofs.CommonEats.{either, some-ahead, run-ahead}
-use Rattle.typst_tokens.specs.Common.{sign}
-use Rattle.typst_tokens.specs.Labels.{label}
-use Rattle.typst_tokens.specs.declared.token.Base.{Base}
 
 module _ (k : CharClasses) (c : ℕ) (p : Place) (e : scout 0 p ≡ Some c) where
   invalid-eats : (d : ℕ) → 1 ≤ eaten (invalid d) p

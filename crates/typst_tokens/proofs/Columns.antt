@@ -1,18 +1,8 @@
 -- Columns: characters back to the line's start, and what is looked at for them.
-use Rattle.std.proofs.Common.{◌≡◌, ◌<◌, ◌≤◌, ℕ, suc, true, false, List, [], ◌∷◌, length, take, drop, slice_get, Some, None, length-take, refl, ap, sym, ◌∙◌, arith}
-use Rattle.std.proofs.lemmas.List.{length-reverse}
-use Rattle.std.proofs.lemmas.Str.{encodes-chars, length-le-encodes, IsUtf8-take}
-use Rattle.std.specs.List.{prefix_len}
-use Rattle.std.specs.Str.{IsUtf8, IsCharBoundary, chars}
-use Rattle.typst_lines.specs.Classes.{in_line}
-use Rattle.typst_lines.specs.Newline.{is_newline}
-use Rattle.typst_lines.specs.Place.{Place, place_at, moved_back}
+use Rattle.typst_tokens.proofs.Cited.{◌≡◌, ◌<◌, ◌≤◌, ℕ, suc, true, false, List, [], ◌∷◌, length, take, drop, slice_get, Some, None, length-take, refl, ap, sym, ◌∙◌, arith, length-reverse, encodes-chars, length-le-encodes, IsUtf8-take, prefix_len, IsUtf8, IsCharBoundary, chars, in_line, Place, place_at, moved_back, column_at, column_look, near, position, is_newline, Hull}
 use Rattle.typst_tokens.proofs.Frame.{run-agree, run_look}
 use Rattle.typst_tokens.proofs.Sights.{near-on, near-none, near-start, position-step}
-use Rattle.typst_tokens.specs.Column.{column_at, column_look}
 use Rattle.typst_tokens.specs.Reader.{place, no_look, Agree}
-use Rattle.typst_tokens.specs.Sight.{near, position}
-use Rattle.typst_tokens.specs.declared.hull.Hull.{Hull}
 
 pub same-hull : (r s l m : ℕ) → r ≡ s → l ≡ m → ◌≡◌ {A = Hull} (record { reach = r; least = l }) (record { reach = s; least = m })
 same-hull r s l m e f = rw (e, f) refl

@@ -1,18 +1,7 @@
 -- Block comments, character by character.
-use Rattle.std.proofs.Common.{◌≡◌, ℕ, ◌+◌, ◌-◌, Bool, true, false, ◌&&◌, ◌==◌, refl, sym, ap, ◌∙◌, Some, None}
-use Rattle.std.proofs.lemmas.Bool.{ne_eqb}
+use Rattle.typst_tokens.proofs.Cited.{◌≡◌, ℕ, ◌+◌, ◌-◌, Bool, true, false, ◌&&◌, ◌==◌, refl, sym, ap, ◌∙◌, Some, None, ne_eqb, scout, comment_turn, comment_step, in_comment, block_comment, Reader, eat_span, blank, comment, last, go, answer, Sight, Covers, went, sight, plain, Token, Memory}
 use Rattle.typst_kinds.specs.declared.kind.SyntaxKind.TheVariants as kind
-use Rattle.typst_lines.specs.Place.{scout}
-use Rattle.typst_tokens.specs.Common.{comment_turn, comment_step, in_comment, block_comment}
-use Rattle.typst_tokens.specs.Reader.{Reader, eat_span}
-use Rattle.typst_tokens.specs.Memory.Memory.{blank, comment}
-use Rattle.typst_tokens.specs.Reader.Turn.{last, go}
-use Rattle.typst_tokens.specs.Reader.Reader.{answer}
-use Rattle.typst_tokens.specs.Sight.{Sight, Covers, went, sight}
-use Rattle.typst_tokens.specs.Token.{plain}
-use Rattle.typst_tokens.specs.declared.token.Token.{Token}
 use Rattle.typst_tokens.proofs.Steps.{step-go, step-last, step-end, end-seen}
-use Rattle.typst_tokens.specs.Memory.{Memory}
 
 abbrev pub done : Memory → Reader Memory Token
 done _ = answer (plain kind.BlockComment)

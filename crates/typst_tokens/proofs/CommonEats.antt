@@ -1,9 +1,5 @@
 -- What is eaten of a run, and by one of two readers.
-use Rattle.std.proofs.Common.{◌≡◌, ◌≤◌, ℕ, Bool, true, false, List, [], ◌∷◌, length, slice_get, if◌then◌else◌, ◌==◌, refl, ap, ◌∙◌, arith, Some}
-use Rattle.std.proofs.lemmas.Bool.Decides.{nat_tests}
-use Rattle.std.specs.List.{prefix_len}
-use Rattle.typst_lines.specs.Place.{Place, scout}
-use Rattle.typst_tokens.specs.Reader.{Reader, eaten}
+use Rattle.typst_tokens.proofs.Cited.{◌≡◌, ◌≤◌, ℕ, Bool, true, false, List, [], ◌∷◌, length, slice_get, if◌then◌else◌, ◌==◌, refl, ap, ◌∙◌, arith, Some, nat_tests, prefix_len, Place, scout, Reader, eaten}
 
 pub either : {M A : Type 0} (b : Bool) (x y : Reader M A) (p : Place) → (b ≡ true → 1 ≤ eaten x p) → 1 ≤ eaten y p → 1 ≤ eaten (if b then x else y) p
 either true x y p h i = h refl

@@ -1,17 +1,9 @@
 -- Numbers, piece by piece.
-use Rattle.std.proofs.Common.{◌≡◌, ℕ, Bool, true, ◌==◌, if◌then◌else◌, List, length, ap, ◌∙◌, arith}
-use Rattle.std.proofs.lemmas.Str.{encodes-chars}
-use Rattle.std.specs.Str.{chars, IsUtf8}
-use Rattle.typst_tokens.specs.Numbers.{in_suffix, numbered, suffixed, with_exponent, is_i64, based}
+use Rattle.typst_tokens.proofs.Cited.{◌≡◌, ℕ, Bool, true, ◌==◌, if◌then◌else◌, List, length, ap, ◌∙◌, arith, encodes-chars, chars, IsUtf8, in_suffix, numbered, suffixed, with_exponent, is_i64, based, run, Sight, went_past, sight, radix_of, Token, Base}
 use Rattle.typst_tokens.specs.declared.numbers.Numeral.{Numeral}
 use Rattle.typst_tokens.specs.declared.numbers.Numeral.TheVariants as numeral
 use Rattle.typst_kinds.specs.declared.kind.SyntaxKind.TheVariants as kind
-use Rattle.typst_lines.specs.Place.{run}
-use Rattle.typst_tokens.specs.Sight.{Sight, went_past, sight}
-use Rattle.typst_tokens.specs.Token.{radix_of}
-use Rattle.typst_tokens.specs.declared.token.Base.{Base}
 use Rattle.typst_tokens.specs.declared.token.NumberFault.TheVariants as number_fault
-use Rattle.typst_tokens.specs.declared.token.Token.{Token}
 
 pub exponent-is : (cs : List ℕ) (e : Bool) → (length cs == 0) ≡ e → with_exponent cs ≡ (if e then numeral.Invalid number_fault.Exponent else numeral.Valid kind.Float)
 exponent-is cs e p = ap (λ x. if x then numeral.Invalid number_fault.Exponent else numeral.Valid kind.Float) p

@@ -7,6 +7,7 @@
 --   see_line                              Lines.same-end
 --   loops that follow a machine           Spans.sight-turn, Steps.step-go, step-last, step-end; PairRuns.sight-pairs
 pub mod Ahead
+pub mod Cited
 pub mod Columns
 pub mod Frame
 pub mod Lines

@@ -1,12 +1,5 @@
 -- Line ends in whitespace, character by character.
-use Rattle.std.proofs.Common.{◌≡◌, ◌≤◌, ℕ, suc, Bool, false, not, ◌&&◌, ◌==◌, if◌then◌else◌, List, [], ◌∷◌, length, slice_index_or, refl, sym, ap, arith, Some, None}
-use Rattle.std.proofs.lemmas.Str.{length-le-encodes, encodes-chars}
-use Rattle.std.specs.Str.{chars, IsUtf8}
-use Rattle.typst_lines.proofs.LineTable.{place-end}
-use Rattle.typst_lines.proofs.PlaceLemmas.{head-splits}
-use Rattle.typst_lines.specs.Place.{Place, place_at, moved, scout}
-use Rattle.typst_lines.specs.Newline.{is_newline}
-use Rattle.typst_tokens.specs.Common.{line_ends}
+use Rattle.typst_tokens.proofs.Cited.{◌≡◌, ◌≤◌, ℕ, suc, Bool, false, not, ◌&&◌, ◌==◌, if◌then◌else◌, List, [], ◌∷◌, length, slice_index_or, refl, sym, ap, arith, Some, None, length-le-encodes, encodes-chars, chars, IsUtf8, head-splits, Place, place_at, moved, scout, line_ends, place-end, is_newline}
 
 pub line_ends-le : (b : Bool) (cs : List ℕ) → line_ends b cs ≤ length cs
 unfolding line_ends

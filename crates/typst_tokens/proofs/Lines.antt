@@ -1,13 +1,7 @@
 -- The rest of a line, whose end is known from a place before.
-use Rattle.std.proofs.Common.{◌≡◌, ◌≤◌, ℕ, zero, suc, ◌+◌, ◌-◌, Bool, true, false, List, [], ◌∷◌, ◌++◌, length, take, drop, slice_range, refl, sym, ap, subst, ◌∙◌, arith, length-append, length-take-le, length-drop, take_at, take-add, drop-drop}
+use Rattle.typst_tokens.proofs.Cited.{◌≡◌, ◌≤◌, ℕ, zero, suc, ◌+◌, ◌-◌, Bool, true, false, List, [], ◌∷◌, ◌++◌, length, take, drop, slice_range, refl, sym, ap, subst, ◌∙◌, arith, length-append, length-take-le, length-drop, take_at, take-add, drop-drop, chars-append, chars-nil, encodes-chars, IsUtf8-between, prefix_len, encode_utf8_all, chars, IsUtf8, IsCharBoundary, place_at, bytes_ahead, moved, moved_from, past, IsRun, advance-moves, chars-between}
 use Rattle.std.proofs.lemmas.List.{length-take, drop_all}
 use Rattle.std.proofs.lemmas.List.Folds.{drop_split}
-use Rattle.std.proofs.lemmas.Str.{chars-append, chars-nil, encodes-chars, IsUtf8-between}
-use Rattle.std.specs.List.{prefix_len}
-use Rattle.std.specs.Prelude.{encode_utf8_all}
-use Rattle.std.specs.Str.{chars, IsUtf8, IsCharBoundary}
-use Rattle.typst_lines.specs.Place.{place_at, bytes_ahead, moved, moved_from, past, IsRun}
-use Rattle.typst_lines.proofs.PlaceLemmas.{advance-moves, chars-between}
 use Rattle.typst_tokens.specs.Line.{IsLineEnd}
 use Rattle.typst_tokens.specs.Reader.{place}
 

@@ -1,16 +1,9 @@
 -- Links, in one piece.
-use Rattle.std.proofs.Common.{◌≡◌, ℕ, suc, max, Bool, ◌==◌, if◌then◌else◌, List, [], ◌∷◌, length, take, refl, arith, Option, Some, None}
+use Rattle.typst_tokens.proofs.Cited.{◌≡◌, ℕ, suc, max, Bool, ◌==◌, if◌then◌else◌, List, [], ◌∷◌, length, take, refl, arith, Option, Some, None, plain, faulty, Token, Place, moved, Look, both, widened, spanned, span_look, exec, brackets, Sight, Covers, saw, went, sight, link_turn, in_link, link_end, link}
 use Rattle.typst_kinds.specs.declared.kind.SyntaxKind.TheVariants as kind
-use Rattle.typst_tokens.specs.Link.{link_turn, in_link, link_end, link}
-use Rattle.typst_tokens.specs.Token.{plain, faulty}
-use Rattle.typst_tokens.specs.declared.token.Token.{Token}
 use Rattle.typst_tokens.specs.declared.token.Fault.TheVariants as fault
-use Rattle.typst_lines.specs.Place.{Place, moved}
 use Rattle.typst_lines.proofs.Fronts.{front-taken}
 use Rattle.typst_lines.specs.Links.{after, front, without_last_signs, link_prefix}
-use Rattle.typst_tokens.specs.Reader.{Look, both, widened, spanned, span_look, exec}
-use Rattle.typst_tokens.specs.Memory.Memory.{brackets}
-use Rattle.typst_tokens.specs.Sight.{Sight, Covers, saw, went, sight}
 use Rattle.typst_tokens.proofs.Frame.{turned, turn_look}
 use Rattle.typst_tokens.proofs.Sights.{saw-ahead}
 

@@ -1,17 +1,9 @@
 -- A token of markup takes at least one character.
-use Rattle.std.proofs.Common.{◌≡◌, ◌≤◌, ℕ, arith, Some}
-use Rattle.typst_kinds.specs.declared.kind.SyntaxKind.{SyntaxKind}
-use Rattle.typst_lines.specs.Place.{Place, scout}
-use Rattle.typst_lines.specs.Classes.{CharClasses}
-use Rattle.typst_tokens.specs.Link.{link_or_text}
+use Rattle.typst_tokens.proofs.Cited.{◌≡◌, ◌≤◌, ℕ, arith, Some, Place, scout, CharClasses, text_from, eaten, sign, label, SyntaxKind, link_or_text}
 use Rattle.typst_tokens.specs.Markup.{dot, minus, emphasis, heading, marker, numbering, markup}
 use Rattle.typst_tokens.specs.Names.{label_or_text, ref_marker, ref_or_text}
-use Rattle.typst_tokens.specs.Text.{text_from}
-use Rattle.typst_tokens.specs.Reader.{eaten}
 use Rattle.typst_tokens.proofs.CommonEats.{run-ahead}
-use Rattle.typst_tokens.specs.Common.{sign}
 use Rattle.typst_tokens.specs.Escapes.{backslash}
-use Rattle.typst_tokens.specs.Labels.{label}
 
 emphasis-eats : (k : CharClasses) (s : SyntaxKind) (p : Place) → 1 ≤ eaten (emphasis k s) p
 unfolding emphasis sign text_from

@@ -1,9 +1,6 @@
 -- A reader answers where it has eaten to.
-use Rattle.std.proofs.Common.{◌≡◌, ℕ, zero, suc, ◌+◌, min, List, [], ◌∷◌, length, slice_get, refl, sym, ap, ◌∙◌, arith}
-use Rattle.std.specs.List.{prefix_len}
-use Rattle.typst_lines.specs.Place.{Place, moved, moved_from, scout, run, past}
+use Rattle.typst_tokens.proofs.Cited.{◌≡◌, ℕ, zero, suc, ◌+◌, min, List, [], ◌∷◌, length, slice_get, refl, sym, ap, ◌∙◌, arith, prefix_len, Place, moved, moved_from, scout, run, past, answer, peek, glance, span, eat, see_run, skip, eat_run}
 use Rattle.typst_tokens.specs.Reader.{place, spanned, Reader, exec, eaten}
-use Rattle.typst_tokens.specs.Reader.Reader.{answer, peek, glance, span, eat, see_run, skip, eat_run}
 
 moved-end : (n : ℕ) (xs : List ℕ) → moved_from n xs [] ≡ place xs []
 moved-end n xs = grind arith

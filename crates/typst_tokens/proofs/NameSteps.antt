@@ -1,18 +1,5 @@
 -- Names, in one piece.
-use Rattle.std.proofs.Common.{◌≡◌, ℕ, suc, List, ◌∷◌, length, sym, ap, ◌∙◌, Option, Some, None, rules}
-use Rattle.std.proofs.lemmas.Str.{encodes-chars}
-use Rattle.std.specs.List.{prefix_len}
-use Rattle.std.specs.Str.{chars, IsUtf8}
-use Rattle.typst_lines.specs.Classes.{CharClasses}
-use Rattle.typst_lines.specs.Identifiers.{is_id_continue}
-use Rattle.typst_tokens.specs.Identifiers.{keyword, named, keyword_or_name, ident}
-use Rattle.typst_kinds.specs.declared.kind.SyntaxKind.{SyntaxKind}
-use Rattle.typst_lines.specs.Place.{run}
-use Rattle.typst_tokens.specs.Reader.{Reader}
-use Rattle.typst_tokens.specs.Reader.Reader.{answer, skip}
-use Rattle.typst_tokens.specs.Sight.{Sight, saw, went, sight}
-use Rattle.typst_tokens.specs.Memory.{Memory}
-use Rattle.typst_tokens.specs.declared.token.Token.{Token}
+use Rattle.typst_tokens.proofs.Cited.{◌≡◌, ℕ, suc, List, ◌∷◌, length, sym, ap, ◌∙◌, Option, Some, None, rules, encodes-chars, prefix_len, chars, IsUtf8, CharClasses, keyword, named, keyword_or_name, ident, run, Reader, answer, skip, Sight, saw, went, sight, Memory, Token, is_id_continue, SyntaxKind}
 
 -- what is read after the first character, by the others, their bytes and the keyword that they are
 abbrev named_by : ℕ → List ℕ → List ℕ → Option SyntaxKind → Sight → Token × Sight

@@ -1,9 +1,5 @@
 -- Two bytes of ASCII that pass, by bits.
-use Rattle.std.proofs.Common.{◌≡◌, ◌<◌, ℕ, ◌+◌, Bool, true, false, not, ◌&&◌, ◌||◌, ◌==◌, nat_eq, if◌then◌else◌, slice_index_or, bit_and, refl, sym, ap, ◌∙◌, arith, rules}
-use Rattle.std.specs.Char.{is_ascii, is_ascii_alphanumeric}
-use Rattle.typst_tokens.specs.Pairs.{bytes_pass}
-use Rattle.typst_tokens.specs.Flow.{flows_in_ascii}
-use Rattle.typst_tokens.specs.Text.{may_stop}
+use Rattle.typst_tokens.proofs.Cited.{◌≡◌, ◌<◌, ℕ, ◌+◌, Bool, true, false, not, ◌&&◌, ◌||◌, ◌==◌, nat_eq, if◌then◌else◌, slice_index_or, bit_and, refl, sym, ap, ◌∙◌, arith, rules, is_ascii, is_ascii_alphanumeric, bytes_pass, may_stop, flows_in_ascii}
 use Rattle.typst_tokens.proofs.Tables.{tabulate, tabulated-from_zero, below}
 
 abbrev bit : ℕ → Bool → ℕ

@@ -1,15 +1,6 @@
 -- Runs of characters that pass by the one that follows them.
-use Rattle.std.proofs.Common.{◌≡◌, ◌≤◌, ◌<◌, ℕ, zero, suc, ◌+◌, max, Bool, true, false, ◌&&◌, ◌||◌, get_or, List, [], ◌∷◌, length, slice_get, Option, Some, None, refl, sym, ap, subst, ◌∙◌, arith}
-use Rattle.std.proofs.lemmas.Bool.Decides.{nat_tests}
-use Rattle.std.specs.Char.{is_ascii}
-use Rattle.std.specs.Str.{IsUtf8, IsCharBoundary}
-use Rattle.std.specs.List.{prefix_len}
-use Rattle.typst_lines.specs.Place.{Place, place_at, moved, moved_from, passes, past, scout}
-use Rattle.typst_lines.proofs.PlaceLemmas.{IsStep-from_ascii}
-use Rattle.typst_tokens.specs.Pairs.{either, bytes_pass, four_pass, pair_passes, pairs_len, past_pairs, went_past_pairs}
+use Rattle.typst_tokens.proofs.Cited.{◌≡◌, ◌≤◌, ◌<◌, ℕ, zero, suc, ◌+◌, max, Bool, true, false, ◌&&◌, ◌||◌, get_or, List, [], ◌∷◌, length, slice_get, Option, Some, None, refl, sym, ap, subst, ◌∙◌, arith, nat_tests, is_ascii, IsUtf8, IsCharBoundary, prefix_len, Place, place_at, moved, moved_from, passes, past, scout, IsStep-from_ascii, either, bytes_pass, four_pass, pair_passes, pairs_len, past_pairs, went_past_pairs, go, far, Sight, Covers, saw, saw_by, went, sight}
 use Rattle.typst_tokens.specs.Reader.{place, ask, glimpse, Machine, Reader, eat_span}
-use Rattle.typst_tokens.specs.Reader.Turn.{go}
-use Rattle.typst_tokens.specs.Sight.{far, Sight, Covers, saw, saw_by, went, sight}
 use Rattle.typst_tokens.proofs.Sights.{covers-saw, covers-went, far-le, far-moved, far-none, far-on, same-sight, saw-ahead, two-scout, went-nowhere}
 use Rattle.typst_tokens.proofs.Spans.{sight-turn, sight-first, went-on}
 

@@ -1,24 +1,9 @@
 -- Raw texts, character by character.
-use Rattle.std.proofs.Common.{◌≡◌, ◌<◌, ℕ, ◌+◌, Bool, true, arith, ◌==◌, if◌then◌else◌, List, length, refl, sym, ap, ◌∙◌, eq-eqb, Some, None}
-use Rattle.std.proofs.lemmas.Bool.{ne_eqb}
-use Rattle.std.proofs.lemmas.Bool.Decides.{nat_tests}
-use Rattle.std.proofs.lemmas.Str.{encodes-chars}
-use Rattle.std.specs.Prelude.{encode_utf8_all}
-use Rattle.std.specs.Str.{chars, IsUtf8}
+use Rattle.typst_tokens.proofs.Cited.{◌≡◌, ◌<◌, ℕ, ◌+◌, Bool, true, arith, ◌==◌, if◌then◌else◌, List, length, refl, sym, ap, ◌∙◌, eq-eqb, Some, None, ne_eqb, nat_tests, encodes-chars, encode_utf8_all, chars, IsUtf8, plain, faulty, Token, Place, scout, run, Reader, eat_span, blank, fence, last, go, answer, Sight, Covers, went, went_past, sight, Memory, fence_turn, fence_step, in_raw, raw_end, raw}
 use Rattle.typst_lines.proofs.AsciiRuns.{run-width}
 use Rattle.typst_kinds.specs.declared.kind.SyntaxKind.TheVariants as kind
-use Rattle.typst_tokens.specs.Raw.{fence_turn, fence_step, in_raw, raw_end, raw}
-use Rattle.typst_tokens.specs.Token.{plain, faulty}
-use Rattle.typst_tokens.specs.declared.token.Token.{Token}
 use Rattle.typst_tokens.specs.declared.token.Fault.TheVariants as fault
-use Rattle.typst_lines.specs.Place.{Place, scout, run}
-use Rattle.typst_tokens.specs.Reader.{Reader, eat_span}
-use Rattle.typst_tokens.specs.Memory.Memory.{blank, fence}
-use Rattle.typst_tokens.specs.Reader.Turn.{last, go}
-use Rattle.typst_tokens.specs.Reader.Reader.{answer}
-use Rattle.typst_tokens.specs.Sight.{Sight, Covers, went, went_past, sight}
 use Rattle.typst_tokens.proofs.Steps.{step-go, step-last, step-end, end-seen}
-use Rattle.typst_tokens.specs.Memory.{Memory}
 
 abbrev pub closing : Memory → Reader Memory Token
 closing memory = answer (raw_end memory)

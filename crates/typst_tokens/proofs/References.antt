@@ -1,7 +1,5 @@
 -- Names of labels and references.
-use Rattle.std.proofs.Common.{◌≡◌, ℕ, Bool, ◌||◌, ◌==◌, List, length, take, sym, ap, subst, ◌∙◌}
-use Rattle.std.specs.List.{prefix_len}
-use Rattle.typst_lines.specs.Place.{Place, run}
+use Rattle.typst_tokens.proofs.Cited.{◌≡◌, ℕ, Bool, ◌||◌, ◌==◌, List, length, take, sym, ap, subst, ◌∙◌, prefix_len, Place, run}
 use Rattle.typst_lines.proofs.Trimmed.{last-taken}
 use Rattle.typst_lines.specs.Labels.{ref_name}
 

@@ -1,16 +1,6 @@
 -- How far readers look, in bytes.
-use Rattle.std.proofs.Common.{◌≡◌, ◌≤◌, ◌<◌, ℕ, zero, suc, ◌+◌, ◌-◌, max, min, Bool, true, false, List, [], ◌∷◌, ◌++◌, length, reverse, take, drop, slice_get, if◌then◌else◌, is_none, length-append, length-take-le, append_assoc, refl, sym, ap, ◌∙◌, arith, Option, Some, None}
-use Rattle.std.proofs.lemmas.List.{reverse-append, reverse-reverse, take-append-drop}
-use Rattle.std.proofs.lemmas.Str.{encodes-chars, chars-append, IsUtf8-take, length-encode, len_utf8_bounds}
-use Rattle.std.specs.List.{prefix_len}
-use Rattle.std.specs.Prelude.{encode_utf8, encode_utf8_all}
-use Rattle.std.specs.Str.{chars, IsUtf8, IsCharBoundary}
-use Rattle.typst_lines.specs.Place.{Place, place_at, char_width, moved, moved_from, moved_back, back_from, scout, run, past}
+use Rattle.typst_tokens.proofs.Cited.{◌≡◌, ◌≤◌, ◌<◌, ℕ, zero, suc, ◌+◌, ◌-◌, max, min, Bool, true, false, List, [], ◌∷◌, ◌++◌, length, reverse, take, drop, slice_get, if◌then◌else◌, is_none, length-append, length-take-le, append_assoc, refl, sym, ap, ◌∙◌, arith, Option, Some, None, reverse-append, reverse-reverse, take-append-drop, encodes-chars, chars-append, IsUtf8-take, length-encode, len_utf8_bounds, prefix_len, encode_utf8, encode_utf8_all, chars, IsUtf8, IsCharBoundary, Place, place_at, char_width, moved, moved_from, moved_back, back_from, scout, run, past, answer, peek, glance, span, eat, see_run, skip, eat_run, width, position, stretch, far, near, Sight, Covers, fresh, saw, saw_back, saw_by, went, went_past, regard, sight, text_of, hull_of, turn, see, see_back, Hull}
 use Rattle.typst_tokens.specs.Reader.{place, both, no_look, Step, ask, glimpse, spanned, span_look, Reader, exec, eaten, Look, look, from_before, from_far, skip_look}
-use Rattle.typst_tokens.specs.Reader.Step.{turn, see, see_back}
-use Rattle.typst_tokens.specs.Reader.Reader.{answer, peek, glance, span, eat, see_run, skip, eat_run}
-use Rattle.typst_tokens.specs.Sight.{width, position, stretch, far, near, Sight, Covers, fresh, saw, saw_back, saw_by, went, went_past, regard, sight, text_of, hull_of}
-use Rattle.typst_tokens.specs.declared.hull.Hull.{Hull}
 use Rattle.typst_tokens.proofs.Moves.{exec-moved, moved-more}
 
 -- ---- bytes

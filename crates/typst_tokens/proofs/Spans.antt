@@ -1,9 +1,6 @@
 -- Machines, taken one character after the other.
-use Rattle.std.proofs.Common.{◌≡◌, ℕ, suc, max, List, [], ◌∷◌, length, refl, sym, ap, ◌∙◌, arith}
-use Rattle.typst_lines.specs.Place.{Place, moved_from}
+use Rattle.typst_tokens.proofs.Cited.{◌≡◌, ℕ, suc, max, List, [], ◌∷◌, length, refl, sym, ap, ◌∙◌, arith, Place, moved_from, leave, last, go, far, Sight, Covers, saw, saw_by, went, sight}
 use Rattle.typst_tokens.specs.Reader.{place, both, widened, from_before, Look, ask, glimpse, Machine, Turn, spanned, span_look, Reader, eat_span}
-use Rattle.typst_tokens.specs.Reader.Turn.{leave, last, go}
-use Rattle.typst_tokens.specs.Sight.{far, Sight, Covers, saw, saw_by, went, sight}
 use Rattle.typst_tokens.proofs.Frame.{turned, turn_look}
 use Rattle.typst_tokens.proofs.Sights.{far-none, far-le, far-on, same-sight, covers-saw, covers-saw_by, saw-both, saw-nothing, saw-ahead, saw-before, went-nowhere}
 

@@ -1,16 +1,6 @@
 -- Facts on the numbers that digits write.
-use Rattle.std.proofs.Common.{◌≡◌, ◌≤◌, ◌<◌, ℕ, ◌+◌, ◌*◌, ◌^◌, Bool, true, false, ◌&&◌, if◌then◌else◌, nat_lt, List, [], ◌∷◌, refl, sym, ap, ◌∙◌, arith, Option, Some, None, length}
-use Rattle.std.proofs.lemmas.Bool.Decides.{nat_tests}
-use Rattle.std.specs.Char.{digit_value}
+use Rattle.typst_tokens.proofs.Cited.{◌≡◌, ◌≤◌, ◌<◌, ℕ, ◌+◌, ◌*◌, ◌^◌, Bool, true, false, ◌&&◌, if◌then◌else◌, nat_lt, List, [], ◌∷◌, refl, sym, ap, ◌∙◌, arith, Option, Some, None, length, nat_tests, digit_value, list_all, encode_utf8_all, chars, IsUtf8, encodes-chars, Place, place_at, moved, scout, head-splits, number_after, number, with_digit, place-end}
 use Rattle.std.specs.Option.{SomeIff}
-use Rattle.std.specs.List.{list_all}
-use Rattle.std.specs.Prelude.{encode_utf8_all}
-use Rattle.std.specs.Str.{chars, IsUtf8}
-use Rattle.std.proofs.lemmas.Str.{encodes-chars}
-use Rattle.typst_lines.specs.Place.{Place, place_at, moved, scout}
-use Rattle.typst_lines.proofs.LineTable.{place-end}
-use Rattle.typst_lines.proofs.PlaceLemmas.{head-splits}
-use Rattle.typst_tokens.specs.Characters.{number_after, number, with_digit}
 
 abbrev pub is_digit : ℕ → ℕ → Bool
 is_digit base c = nat_lt (digit_value c) base

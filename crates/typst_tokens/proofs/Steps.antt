@@ -1,9 +1,6 @@
 -- Machines that look at one character after the other.
-use Rattle.std.proofs.Common.{◌≡◌, ◌<◌, ℕ, List, [], ◌∷◌, slice_get, refl, sym, ap, ◌∙◌, arith, Some, None}
-use Rattle.typst_lines.specs.Place.{scout}
+use Rattle.typst_tokens.proofs.Cited.{◌≡◌, ◌<◌, ℕ, List, [], ◌∷◌, slice_get, refl, sym, ap, ◌∙◌, arith, Some, None, scout, last, go, position, Sight, Covers, saw, went, sight}
 use Rattle.typst_tokens.specs.Reader.{place, Turn, Reader, by_character, eat_span}
-use Rattle.typst_tokens.specs.Reader.Turn.{last, go}
-use Rattle.typst_tokens.specs.Sight.{position, Sight, Covers, saw, went, sight}
 use Rattle.typst_tokens.proofs.Sights.{covers-saw, position-step, saw-ahead, went-seen}
 use Rattle.typst_tokens.proofs.Spans.{saw-twice, sight-turn, sight-end, turned_sight}
 

@@ -1,19 +1,8 @@
 -- Strings, character by character.
-use Rattle.std.proofs.Common.{◌≡◌, ℕ, Bool, true, false, ◌==◌, refl, sym, ap, ◌∙◌, Some, None}
-use Rattle.std.proofs.lemmas.Bool.{ne_eqb}
-use Rattle.typst_tokens.specs.Strings.{string_turn, string_step, in_string, string_end, string}
+use Rattle.typst_tokens.proofs.Cited.{◌≡◌, ℕ, Bool, true, false, ◌==◌, refl, sym, ap, ◌∙◌, Some, None, ne_eqb, string_turn, string_step, in_string, string_end, string, scout, Reader, eat_span, answer, last, go, Sight, Covers, went, sight, Memory, blank, quoted, plain, faulty, Token}
 use Rattle.typst_kinds.specs.declared.kind.SyntaxKind.TheVariants as kind
-use Rattle.typst_lines.specs.Place.{scout}
 use Rattle.typst_tokens.proofs.Steps.{step-go, step-last, step-end, end-seen}
-use Rattle.typst_tokens.specs.Reader.{Reader, eat_span}
-use Rattle.typst_tokens.specs.Reader.Reader.{answer}
-use Rattle.typst_tokens.specs.Reader.Turn.{last, go}
-use Rattle.typst_tokens.specs.Sight.{Sight, Covers, went, sight}
-use Rattle.typst_tokens.specs.Memory.{Memory}
-use Rattle.typst_tokens.specs.Memory.Memory.{blank, quoted}
-use Rattle.typst_tokens.specs.Token.{plain, faulty}
 use Rattle.typst_tokens.specs.declared.token.Fault.TheVariants as fault
-use Rattle.typst_tokens.specs.declared.token.Token.{Token}
 
 abbrev pub closing : Memory → Reader Memory Token
 closing memory = answer (string_end memory)

@@ -1,6 +1,5 @@
 -- Tables of what is said of numbers.
-use Rattle.std.proofs.Common.{◌≡◌, ◌<◌, ℕ, zero, suc, ◌+◌, true, nat_lt, List, [], ◌∷◌, ap, ◌∙◌, arith, slice_index_or}
-use Rattle.std.proofs.lemmas.Bool.Decides.{nat_tests}
+use Rattle.typst_tokens.proofs.Cited.{◌≡◌, ◌<◌, ℕ, zero, suc, ◌+◌, true, nat_lt, List, [], ◌∷◌, ap, ◌∙◌, arith, slice_index_or, nat_tests}
 
 -- what a function says of k numbers from n on
 abbrev pub tabulate : {A : Type 0} → (ℕ → A) → ℕ → ℕ → List A

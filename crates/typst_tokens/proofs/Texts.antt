@@ -1,24 +1,11 @@
 -- Facts on texts.
-use Rattle.std.proofs.Common.{◌≡◌, ◌≤◌, ◌<◌, ℕ, length, Bool, true, false, not, ◌||◌, ◌&&◌, ◌==◌, if◌then◌else◌, List, [], ◌∷◌, refl, sym, ap, subst, ◌∙◌, arith, slice_get, Option, Some, None}
-use Rattle.std.proofs.lemmas.Bool.Decides.{nat_tests}
+use Rattle.typst_tokens.proofs.Cited.{◌≡◌, ◌≤◌, ◌<◌, ℕ, length, Bool, true, false, not, ◌||◌, ◌&&◌, ◌==◌, if◌then◌else◌, List, [], ◌∷◌, refl, sym, ap, subst, ◌∙◌, arith, slice_get, Option, Some, None, nat_tests, Place, moved, moved_from, passes, scout, word_at, CharClasses, blank, answer, leave, go, Sight, Covers, saw, saw_by, went, saw_word, regard, sight, either, past_pairs, pairs_len, went_past_pairs, may_stop, text_step, on, in_text, text, plain, Token, Memory, flows}
 use Rattle.typst_kinds.specs.declared.kind.SyntaxKind.TheVariants as kind
-use Rattle.typst_lines.specs.Place.{Place, moved, moved_from, passes, scout, word_at}
-use Rattle.typst_lines.specs.Classes.{CharClasses}
 use Rattle.typst_tokens.specs.Reader.{place, widened, Reader, Turn, ask, glimpse, eat_span, see_word}
-use Rattle.typst_tokens.specs.Memory.Memory.{blank}
-use Rattle.typst_tokens.specs.Reader.Reader.{answer}
-use Rattle.typst_tokens.specs.Reader.Turn.{leave, go}
-use Rattle.typst_tokens.specs.Sight.{Sight, Covers, saw, saw_by, went, saw_word, regard, sight}
-use Rattle.typst_tokens.specs.Pairs.{either, past_pairs, pairs_len, went_past_pairs}
-use Rattle.typst_tokens.specs.Flow.{flows}
-use Rattle.typst_tokens.specs.Text.{may_stop, text_step, on, in_text, text}
-use Rattle.typst_tokens.specs.Token.{plain}
-use Rattle.typst_tokens.specs.declared.token.Token.{Token}
 use Rattle.typst_tokens.proofs.Sights.{regard-is, covers-saw, covers-saw_by, saw-ahead, saw-both}
 use Rattle.typst_tokens.proofs.Words.{regard-see_word}
 use Rattle.typst_tokens.proofs.PairRuns.{moved-less, sight-pairs}
 use Rattle.typst_tokens.proofs.Spans.{saw-twice, sight-turn, sight-end, turned_sight}
-use Rattle.typst_tokens.specs.Memory.{Memory}
 
 abbrev pub rest : CharClasses → Reader Memory Token
 rest k = eat_span (in_text k) blank (λ _. answer (plain kind.Text))

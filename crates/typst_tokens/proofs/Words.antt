@@ -1,9 +1,6 @@
 -- Words.
-use Rattle.std.proofs.Common.{◌≡◌, ◌≤◌, ◌<◌, ℕ, zero, suc, ◌+◌, max, Bool, true, false, ◌&&◌, ◌==◌, if◌then◌else◌, List, [], ◌∷◌, drop, length, slice_get, get_or, refl, sym, ap, ◌∙◌, arith, Option}
+use Rattle.typst_tokens.proofs.Cited.{◌≡◌, ◌≤◌, ◌<◌, ℕ, zero, suc, ◌+◌, max, Bool, true, false, ◌&&◌, ◌==◌, if◌then◌else◌, List, [], ◌∷◌, drop, length, slice_get, get_or, refl, sym, ap, ◌∙◌, arith, Option, Place, moved, moved_from, scout, passes, word_at, Step, see_word, Sight, Covers, far, regard, saw_word, went, word_reach}
 use Rattle.std.proofs.Math.Seq.{drop-cons}
-use Rattle.typst_lines.specs.Place.{Place, moved, moved_from, scout, passes, word_at}
-use Rattle.typst_tokens.specs.Reader.{Step, see_word}
-use Rattle.typst_tokens.specs.Sight.{Sight, Covers, far, regard, saw_word, went, word_reach}
 use Rattle.typst_tokens.proofs.Sights.{far-moved, far-none, same-sight}
 
 pub scout-moved : (n : ℕ) (p : Place) → scout n (moved 1 p) ≡ scout (suc n) p

@@ -1,7 +1,5 @@
 -- One more child of several that are added up.
-use Rattle.std.proofs.Common.{◌≡◌, ℕ, ◌+◌, ◌<◌, ◌≤◌, ◌^◌, List, length, drop, get_or, arith, length-append, []}
-use Rattle.std.proofs.lemmas.List.{drop_more, drop_all}
-use Rattle.typst_tree.specs.Tree.{Tree, forest, joined, count, text_of, nodes, saturated}
+use Rattle.typst_tree.proofs.Cited.{◌≡◌, ℕ, ◌+◌, ◌<◌, ◌≤◌, ◌^◌, List, length, drop, get_or, arith, length-append, [], drop_more, drop_all, Tree, forest, joined, count, text_of, nodes, saturated}
 
 pub record OneMore (xs : List Tree) (i : ℕ) (x : Tree) : Type 0 where
   pub long : length (joined (forest (drop i xs))) ≡ length (text_of x) + length (joined (forest (drop (i + 1) xs)))

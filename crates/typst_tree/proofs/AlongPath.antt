@@ -1,11 +1,5 @@
 -- One replacement taken apart, and followed along its path.
-use Rattle.std.proofs.Common.{◌≡◌, ℕ, ◌+◌, List, ◌∷◌, ◌++◌, length, take, drop, Option, Some, None, arith, []}
-use Rattle.std.specs.Prelude.{option_map, option_and_then, slice_get, slice_set, slice_range}
-use Rattle.typst_tree.specs.declared.replace.Stretch.{Stretch}
-use Rattle.typst_kinds.specs.Head.{Head}
-use Rattle.typst_tree.specs.Tree.{Tree, forest, count}
-use Rattle.typst_tree.specs.Replace.{kids_of, with_kids, swapped, exchanged, renumbered, fit, growth, stretch, replaced, replaced_at, At, Reaches}
-use Rattle.typst_tree.specs.Laws.{Along, AtPath}
+use Rattle.typst_tree.proofs.Cited.{◌≡◌, ℕ, ◌+◌, List, ◌∷◌, ◌++◌, length, take, drop, Option, Some, None, arith, [], Stretch, Head, Tree, forest, count, kids_of, with_kids, swapped, exchanged, renumbered, fit, growth, stretch, replaced, replaced_at, At, Reaches, Along, AtPath, option_map, option_and_then, slice_get, slice_set, slice_range}
 
 -- what the node with children kids is, whose children from..to were replaced
 pub record Inside (t u : Tree) (from to : ℕ) (new : List Tree) : Type 0 where

@@ -1,10 +1,5 @@
 -- Places between the children of a tree's root.
-use Rattle.std.proofs.Common.{◌≡◌, ℕ, ◌+◌, ◌-◌, ◌^◌, ◌<◌, ◌≤◌, List, ◌++◌, length, length-append, length-take-le, map, take, drop, get_or, ap, sym, ◌∙◌, arith, []}
-use Rattle.std.proofs.lemmas.List.{take-append-le, take-map, take-take, take_all}
-use Rattle.typst_tree.specs.Tree.{Tree, forest, trees, count, nodes, places, preorder, joined, text_of, saturated, bare, bare_forest}
-use Rattle.typst_tree.specs.Boundaries.{AreCounted, IsBoundary}
-use Rattle.typst_tree.specs.Steps.{at, children}
-use Rattle.typst_tree.specs.Walks.{Stands, numbers}
+use Rattle.typst_tree.proofs.Cited.{◌≡◌, ℕ, ◌+◌, ◌-◌, ◌^◌, ◌<◌, ◌≤◌, List, ◌++◌, length, length-append, length-take-le, map, take, drop, get_or, ap, sym, ◌∙◌, arith, [], take-append-le, take-map, take-take, take_all, Tree, forest, trees, count, nodes, places, preorder, joined, text_of, saturated, bare, bare_forest, at, children, Stands, numbers, AreCounted, IsBoundary}
 use Rattle.typst_tree.specs.declared.boundary.Boundary.{Boundary}
 use Rattle.typst_tree.proofs.NodesOfStretch.{node_here, stands_whole}
 use Rattle.typst_tree.proofs.Numbering.{count_bare, count_take, joined_bare}

@@ -1,25 +1,14 @@
 -- Steps up from a node.
-use Rattle.std.proofs.lemmas.Grind.{common_steps}
-use Rattle.std.proofs.Common.{◌≡◌, ℕ, zero, suc, ◌+◌, ◌-◌, ◌^◌, ◌<◌, ◌≤◌, List, ◌∷◌, ◌++◌, true, false, length, take, drop, Option, Some, None, refl, ap, sym, subst, ◌∙◌, arith, append_assoc, length-append, get_or, rules, []}
+use Rattle.typst_tree.proofs.Cited.{common_steps, ◌≡◌, ℕ, zero, suc, ◌+◌, ◌-◌, ◌^◌, ◌<◌, ◌≤◌, List, ◌∷◌, ◌++◌, true, false, length, take, drop, Option, Some, None, refl, ap, sym, subst, ◌∙◌, arith, append_assoc, length-append, get_or, rules, [], drop-append_seam, drop-append-add, nat_tests, Tree, trees, nodes, places, forest, count, preorder, first_at, last_leaf, is_leaf_from, if_none, Stands, IsChild, IsFork, IsAbove, leaf_after, leaf_until, reach_of, index_of, linked, LinkedNode, nat_le, nat_lt, find}
 use Rattle.std.proofs.lemmas.List.{drop-append-le, length-drop}
 use Rattle.typst_tree.proofs.LastLeaf.{last_append, last_none, preorder_split}
-use Rattle.std.proofs.Math.Seq.{drop-append_seam, drop-append-add}
-use Rattle.std.specs.Prelude.{nat_le, nat_lt, find}
 use Rattle.typst_tree.proofs.SpansAside.{forest_trees}
 use Rattle.typst_tree.proofs.Siblings.{find_behind}
-use Rattle.std.proofs.lemmas.Bool.Decides.{nat_tests}
 use Rattle.std.specs.Option.{option_map, option_or}
-use Rattle.typst_tree.specs.Tree.{Tree, trees, nodes, places, forest, count, preorder}
 use Rattle.typst_tree.proofs.Rows.{Beside, beside, Over, here_in, over_at}
-use Rattle.typst_tree.specs.Walks.{first_at, last_leaf, is_leaf_from, if_none, Stands}
-use Rattle.typst_tree.specs.Rows.{IsChild, IsFork}
-use Rattle.typst_tree.specs.Branches.{IsAbove, leaf_after, leaf_until}
-use Rattle.typst_tree.specs.Follows.{reach_of, index_of}
 use Rattle.typst_tree.specs.declared.known.Reach.TheVariants as reach
 use Rattle.typst_tree.proofs.Forks.{Tops, tops}
-use Rattle.typst_tree.specs.Linked.{linked}
 use Rattle.typst_tree.specs.Steps.{At, at, children, is_sibling_after, parent, first_below, start_of, node_of, next_leaf}
-use Rattle.typst_tree.specs.declared.linked.LinkedNode.{LinkedNode}
 use Rattle.typst_tree.specs.declared.linked.Above.{Above}
 use Rattle.typst_tree.proofs.WalksInPreorder.{first_append, length_places, length_preorder}
 use Rattle.typst_tree.proofs.NodesOfStretch.{node_here, same_node, standing, stands_whole}

@@ -1,11 +1,5 @@
 -- Leaves without children.
-use Rattle.std.proofs.Common.{◌≡◌, ℕ, zero, suc, ◌+◌, ◌<◌, List, ◌∷◌, ◌++◌, length, take, get_or, refl, ap, sym, ◌∙◌, subst, arith, add-one, rules, []}
-use Rattle.typst_kinds.specs.declared.kind.SyntaxKind.{SyntaxKind}
-use Rattle.typst_kinds.specs.Span.{SpanValue}
-use Rattle.typst_kinds.specs.Head.{bare_head, spanned}
-use Rattle.typst_tree.specs.Tree.{Forest, none, more, Tree, forest, bare, bare_forest, with_each, synthesized, with_kind, at_tree}
-use Rattle.typst_tree.specs.Numbers.{numbered_list}
-use Rattle.typst_tree.specs.Order.{IsWholeForest, IsWhole}
+use Rattle.typst_tree.proofs.Cited.{◌≡◌, ℕ, zero, suc, ◌+◌, ◌<◌, List, ◌∷◌, ◌++◌, length, take, get_or, refl, ap, sym, ◌∙◌, subst, arith, add-one, rules, [], SyntaxKind, SpanValue, bare_head, spanned, Forest, none, more, Tree, forest, bare, bare_forest, with_each, synthesized, with_kind, at_tree, numbered_list, IsWholeForest, IsWhole}
 use Rattle.typst_tree.proofs.Numbering.{forest_numbered, numbered_forest_bare}
 
 none_bare : (f : Forest) → bare_forest f ≡ none → f ≡ none

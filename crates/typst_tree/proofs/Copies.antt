@@ -1,10 +1,6 @@
 -- A copy of a tree, made upwards from one of its nodes.
-use Rattle.std.proofs.lemmas.Grind.{common_steps}
-use Rattle.std.proofs.Common.{◌≡◌, ◌≢◌, ℕ, zero, suc, ◌+◌, ◌<◌, ◌≤◌, List, ◌∷◌, ◌++◌, length, take, get_or, refl, ap, sym, subst, ◌∙◌, arith, []}
-use Rattle.std.specs.Prelude.{insert, remove}
-use Rattle.std.proofs.lemmas.List.{take_all, get_or_default}
+use Rattle.typst_tree.proofs.Cited.{common_steps, ◌≡◌, ◌≢◌, ℕ, zero, suc, ◌+◌, ◌<◌, ◌≤◌, List, ◌∷◌, ◌++◌, length, take, get_or, refl, ap, sym, subst, ◌∙◌, arith, [], insert, remove, take_all, get_or_default, Forest, none, more, Tree, forest, trees, count, nodes}
 use Rattle.typst_tree.specs.declared.node.Ancestor.{Ancestor}
-use Rattle.typst_tree.specs.Tree.{Forest, none, more, Tree, forest, trees, count, nodes}
 use Rattle.typst_tree.proofs.SpansAside.{trees_forest, forest_trees}
 
 -- the way down from a tree: each tree on it with the index of the child that is the next
@@ -29,9 +25,6 @@ above_end top (q ∷ above) p t w = grind (arith, above_end (get_or (trees q.nod
 
 pub way_up : (top : Tree) (above rest : List Ancestor) (p : Ancestor) (t : Tree) → above ≡ rest ++ p ∷ [] → IsWay top above t → Upper top rest p t
 way_up top above rest p t e w = above_end top rest p t (subst (λ (ps : List Ancestor). IsWay top ps t) e w)
-
-pub way_done : (top : Tree) (above : List Ancestor) (t : Tree) → length above ≡ 0 → IsWay top above t → t ≡ top
-way_done top above t h w = grind (arith, common_steps)
 
 child_nodes : (f : Forest) (i : ℕ) (d : Tree) → i < length (trees f) → nodes (get_or (trees f) i d) ≤ count f
 child_nodes none i d h = absurd (omega (arith, h))

@@ -1,7 +1,5 @@
 -- A row without one of its trees is no larger.
-use Rattle.std.proofs.Common.{ℕ, ◌-◌, ◌<◌, ◌≤◌, List, [], ◌∷◌, length, take, zero, suc, slice_set, slice_index_or, arith}
-use Rattle.std.specs.List.{swap_remove}
-use denote.Param.Weighed.{most, at_most}
+use Rattle.typst_tree.proofs.Cited.{ℕ, ◌-◌, ◌<◌, ◌≤◌, List, [], ◌∷◌, length, take, zero, suc, slice_set, slice_index_or, arith, swap_remove, most, at_most}
 
 pub most-take : {X : Type 0} (f : X → ℕ) (n : ℕ) (xs : List X) → most f (take n xs) ≤ most f xs
 most-take f zero xs = omega arith

@@ -1,10 +1,6 @@
 -- A span finds its own node.
-use Rattle.std.proofs.Common.{◌≡◌, ℕ, zero, suc, ◌+◌, List, ◌∷◌, length, Bool, true, false, Option, Some, refl, ap, sym, ◌∙◌, arith, ◌⊎◌, inl, inr, []}
-use Rattle.std.specs.Prelude.{slice_get}
+use Rattle.typst_tree.proofs.Cited.{◌≡◌, ℕ, zero, suc, ◌+◌, List, ◌∷◌, length, Bool, true, false, Option, Some, refl, ap, sym, ◌∙◌, arith, ◌⊎◌, inl, inr, [], none-some, Tree, places, first_at, has_span, same_place, slice_get}
 use Rattle.std.specs.Option.{option_map}
-use Rattle.std.proofs.lemmas.Option.{none-some}
-use Rattle.typst_tree.specs.Tree.{Tree, places}
-use Rattle.typst_tree.specs.Walks.{first_at, has_span, same_place}
 use Rattle.typst_tree.specs.Steps.{At, at, node_of, start_of, find_span, SpansDiffer, FindsOwn}
 use Rattle.typst_tree.proofs.SingleNodes.{place_same}
 

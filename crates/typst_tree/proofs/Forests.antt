@@ -1,12 +1,5 @@
 -- The equations of forests.
-use Rattle.std.proofs.Common.{◌≡◌, ℕ, List, [], ◌∷◌, ◌++◌, length, map, take, drop, ◌≤◌, ◌<◌, zero, suc, get_or, true, false, if◌then◌else◌, refl, ap, arith, append-nil}
-use Rattle.std.proofs.Math.ListN.{set}
-use Rattle.typst_kinds.specs.declared.kind.SyntaxKind.{SyntaxKind}
-use Rattle.typst_kinds.specs.Kinds.{is_error}
-use Rattle.std.proofs.lemmas.List.{take_all, drop_all}
-use Rattle.typst_kinds.specs.Span.{SpanValue}
-use Rattle.typst_kinds.specs.Head.{Head, spanned}
-use Rattle.typst_tree.specs.Tree.{Forest, none, more, Tree, forest, joined, count, with_each, synthesized, at_tree, with_kind}
+use Rattle.typst_tree.proofs.Cited.{◌≡◌, ℕ, List, [], ◌∷◌, ◌++◌, length, map, take, drop, ◌≤◌, ◌<◌, zero, suc, get_or, true, false, if◌then◌else◌, refl, ap, arith, append-nil, set, SyntaxKind, take_all, drop_all, SpanValue, Head, spanned, Forest, none, more, Tree, forest, joined, count, with_each, synthesized, at_tree, with_kind, is_error}
 
 pub joined_spanned : (sp : SpanValue) (f : Forest) → joined (with_each (spanned sp) f) ≡ joined f
 joined_spanned sp none = refl

@@ -1,18 +1,8 @@
 -- The first long row on a way, and what is known of places in it.
-use Rattle.std.proofs.Common.{◌≡◌, Bool, true, false, ℕ, zero, suc, ◌+◌, ◌-◌, ◌^◌, ◌<◌, ◌≤◌, List, ◌∷◌, ◌++◌, length, take, drop, Some, refl, ap, sym, subst, ◌∙◌, arith, inl, inr, length-append, get_or, []}
-use Rattle.std.specs.Prelude.{slice_get, nat_lt}
-use Rattle.std.proofs.lemmas.Bool.Decides.{nat_tests}
-use Rattle.std.proofs.lemmas.Bool.{cases_lt, cases_eq}
-use Rattle.std.proofs.lemmas.Option.{same_Some, slice_get_read}
+use Rattle.typst_tree.proofs.Cited.{◌≡◌, Bool, true, false, ℕ, zero, suc, ◌+◌, ◌-◌, ◌^◌, ◌<◌, ◌≤◌, List, ◌∷◌, ◌++◌, length, take, drop, Some, refl, ap, sym, subst, ◌∙◌, arith, inl, inr, length-append, get_or, [], nat_tests, cases_lt, cases_eq, same_Some, slice_get_read, Tree, forest, trees, nodes, places, count, preorder, joined, saturated, texts, Stands, Follows, Joins, reach_of, index_of, EndsBy, IsChild, IsOpen, IsFork, IsPlaced, Holds, long, Known, slice_get, nat_lt}
 use Rattle.std.proofs.Math.Logic.{∥∥₁_elim, ∥∥₁_map}
 use Rattle.std.proofs.Props.{props}
-use Rattle.typst_tree.specs.Tree.{Tree, forest, trees, nodes, places, count, preorder, joined, saturated}
 use Rattle.typst_tree.proofs.SpansAside.{forest_trees, trees_forest}
-use Rattle.typst_tree.specs.Walks.{texts, Stands}
-use Rattle.typst_tree.specs.Follows.{Follows, Joins, reach_of, index_of}
-use Rattle.typst_tree.specs.Branches.{EndsBy}
-use Rattle.typst_tree.specs.Rows.{IsChild, IsOpen, IsFork, IsPlaced, Holds, long}
-use Rattle.typst_tree.specs.declared.known.Known.{Known}
 use Rattle.typst_tree.specs.declared.known.Reach.TheVariants as reach
 use Rattle.typst_tree.proofs.LastLeaf.{preorder_split}
 use Rattle.typst_tree.proofs.NodesOfStretch.{stands_get}
@@ -60,10 +50,6 @@ ends_by root n k o m b s up from h l p j f =
       | inr after ↦ (let own : slice_get (places o) (j - m) ≡ Some p = get_inside (places root) m b j o s after (omega (arith, f.from, h)) ∙ f.here in
           omega (arith, l, after, inside_tree o (j - m) p own))
     ]
-
--- and where it is open to the node itself there is none
-pub ends_open : (root : Tree) (n k : ℕ) → IsOpen root n → EndsBy root n k
-ends_open root n k up p j f = absurd (omega (arith, f.many, up j p f.here f.from f.to))
 
 -- a node begins no earlier than those before it
 begins_later : (xs : List Tree) (n m : ℕ) → n ≤ m → length (texts (take n xs)) ≤ length (texts (take m xs))

@@ -1,15 +1,5 @@
 -- What a walk back found, seen from a node and from the node above it.
-use Rattle.std.proofs.Common.{◌≡◌, Bool, ℕ, ◌+◌, ◌-◌, ◌<◌, ◌≤◌, ◌++◌, List, length, get_or, take, refl, ap, ◌∙◌, arith, length-append}
-use Rattle.std.specs.Prelude.{nat_lt}
-use Rattle.std.proofs.lemmas.Option.{slice_get_read}
-use Rattle.typst_tree.specs.Tree.{Tree, count, forest, nodes, places, saturated, trees}
-use Rattle.typst_tree.specs.Found.{IsBelow, IsBelowChild}
-use Rattle.typst_tree.specs.Follows.{Follows, Joins, reach_of, in_order_of}
-use Rattle.typst_tree.specs.Passed.{IsPassed}
-use Rattle.typst_tree.specs.Rows.{IsChild, IsOpen, Holds, long}
-use Rattle.typst_tree.specs.Walks.{Stands, Within}
-use Rattle.typst_tree.specs.declared.back.Found.{Found}
-use Rattle.typst_tree.specs.declared.known.Known.{Known}
+use Rattle.typst_tree.proofs.Cited.{◌≡◌, Bool, ℕ, ◌+◌, ◌-◌, ◌<◌, ◌≤◌, ◌++◌, List, length, get_or, take, refl, ap, ◌∙◌, arith, length-append, slice_get_read, Tree, count, forest, nodes, places, saturated, trees, IsBelow, IsBelowChild, Follows, Joins, reach_of, in_order_of, IsPassed, IsChild, IsOpen, Holds, long, Stands, Within, Found, Known, nat_lt}
 use Rattle.typst_tree.specs.declared.known.Reach.TheVariants as reach
 use Rattle.typst_tree.proofs.Forks.{holds_child, holds_joined}
 use Rattle.typst_tree.proofs.NodesOfStretch.{stands_row}

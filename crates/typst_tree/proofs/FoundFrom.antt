@@ -1,9 +1,5 @@
 -- What a search finds first, by a number that what it finds isn't below.
-use Rattle.std.proofs.Common.{◌≡◌, ℕ, ◌+◌, ◌<◌, ◌≤◌, Bool, true, false, cond, max, List, ◌∷◌, ◌++◌, length, Option, Some, None, ap, sym, subst, ◌∙◌, arith, length-append, []}
-use Rattle.std.specs.Prelude.{IfSome, option_map}
-use Rattle.typst_tree.specs.Tree.{Tree, nodes, places, saturated}
-use Rattle.typst_tree.specs.Walks.{texts, first_at, if_none, Within}
-use Rattle.typst_tree.specs.Looked.{first_of, IsIn, FoundFrom, Finds, Looks}
+use Rattle.typst_tree.proofs.Cited.{◌≡◌, ℕ, ◌+◌, ◌<◌, ◌≤◌, Bool, true, false, cond, max, List, ◌∷◌, ◌++◌, length, Option, Some, None, ap, sym, subst, ◌∙◌, arith, length-append, [], IfSome, option_map, Tree, nodes, places, saturated, texts, first_at, if_none, Within, first_of, IsIn, FoundFrom, Finds, Looks}
 use Rattle.typst_tree.specs.declared.search.Look.{Look}
 use Rattle.typst_tree.specs.declared.search.Look.TheVariants as look
 use Rattle.typst_tree.specs.declared.search.Spot.{Spot}

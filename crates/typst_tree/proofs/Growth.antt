@@ -1,8 +1,5 @@
 -- One try of `growth`.
-use Rattle.std.proofs.Common.{◌≡◌, ℕ, suc, ◌+◌, ◌-◌, ◌*◌, ◌<◌, Bool, true, false, ◌&&◌, max, List, Some, None, refl, arith, ◌⊎◌, inl, inr}
-use Rattle.typst_kinds.specs.Head.{Head}
-use Rattle.typst_tree.specs.Tree.{Tree}
-use Rattle.typst_tree.specs.Replace.{growth, has_room, is_all}
+use Rattle.typst_tree.proofs.Cited.{◌≡◌, ℕ, suc, ◌+◌, ◌-◌, ◌*◌, ◌<◌, Bool, true, false, ◌&&◌, max, List, Some, None, refl, arith, ◌⊎◌, inl, inr, Head, Tree, growth, has_room, is_all}
 
 module _ (h : Head) (xs : List Tree) (from to n tries c k : ℕ) (lt : c < tries) where
   one_more : tries - c ≡ suc (tries - (c + 1))

@@ -1,8 +1,5 @@
 -- A linked node is one of its tree's nodes.
-use Rattle.std.proofs.Common.{◌<◌, arith}
-use Rattle.typst_tree.specs.Tree.{nodes}
-use Rattle.typst_tree.specs.Linked.{linked}
-use Rattle.typst_tree.specs.declared.linked.LinkedNode.{LinkedNode}
+use Rattle.typst_tree.proofs.Cited.{◌<◌, arith, nodes, linked, LinkedNode}
 use Rattle.typst_tree.proofs.WalksInPreorder.{length_places}
 
 pub inside : (a : LinkedNode) → (linked a).number < nodes (linked a).root

@@ -1,16 +1,6 @@
 -- Replacing keeps numbers in order.
-use Rattle.std.proofs.Common.{◌≡◌, ℕ, zero, suc, ◌+◌, ◌-◌, ◌*◌, ◌<◌, ◌≤◌, ◌==◌, max, false, IsTrue, List, ◌∷◌, ◌++◌, length, take, drop, Some, refl, ap, sym, ◌∙◌, subst, arith, if◌then◌else◌, rules, []}
-use Rattle.std.specs.Prelude.{slice_get, slice_range}
-use Rattle.std.proofs.Math.ListN.{set}
-use Rattle.std.proofs.lemmas.Bool.Decides.{nat_tests}
-use Rattle.typst_kinds.specs.Span.{number_of}
-use Rattle.typst_kinds.specs.Head.{Head}
-use Rattle.typst_tree.specs.Tree.{Tree, forest, count}
-use Rattle.typst_tree.specs.Numbers.{stride, numbered_list}
-use Rattle.typst_tree.specs.Same.{front}
-use Rattle.typst_tree.specs.Order.{IsWholeForest, IsWhole, upper_at, IsOrdered, IsNumbered, numbers_of, AreInOrder}
+use Rattle.typst_tree.proofs.Cited.{◌≡◌, ℕ, zero, suc, ◌+◌, ◌-◌, ◌*◌, ◌<◌, ◌≤◌, ◌==◌, max, false, IsTrue, List, ◌∷◌, ◌++◌, length, take, drop, Some, refl, ap, sym, ◌∙◌, subst, arith, if◌then◌else◌, rules, [], set, nat_tests, number_of, Head, Tree, forest, count, stride, numbered_list, front, IsWholeForest, IsWhole, upper_at, IsOrdered, IsNumbered, numbers_of, AreInOrder, Along, slice_get, slice_range}
 use Rattle.typst_tree.specs.Replace.{kids_of, with_kids, upper_of, upper_or, number_or, start_of, end_of, left_of, right_of, wanted, room, stretch, back, exchanged, renumbered, replaced, replaced_at, Reaches}
-use Rattle.typst_tree.specs.Laws.{Along}
 use Rattle.typst_tree.proofs.SpansAside.{forest_trees}
 use Rattle.typst_tree.proofs.Numbering.{forest_numbered, some_nodes}
 use Rattle.typst_tree.proofs.NumbersInOrder.{stride_step, stride_within, ordered_le, ordered_from, ordered_to, numbered_ordered, numbers_in_order}

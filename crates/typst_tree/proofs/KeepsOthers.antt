@@ -1,13 +1,6 @@
 -- Replacing keeps the children that are neither taken out nor renumbered.
-use Rattle.std.proofs.Common.{◌≡◌, ℕ, ◌+◌, ◌-◌, ◌≤◌, List, ◌∷◌, ◌++◌, length, take, drop, Option, Some, None, refl, ap, sym, ◌∙◌, arith, append_assoc, length-append, []}
-use Rattle.std.specs.Prelude.{slice_range}
+use Rattle.typst_tree.proofs.Cited.{◌≡◌, ℕ, ◌+◌, ◌-◌, ◌≤◌, List, ◌∷◌, ◌++◌, length, take, drop, Option, Some, None, refl, ap, sym, ◌∙◌, arith, append_assoc, length-append, [], slice_range, Head, Tree, numbered_list, front, kids_of, with_kids, back, exchanged, replaced, Reaches, touched, touched_by, Keeps}
 use Rattle.std.proofs.lemmas.List.{take_at, drop_at, length-take-le, length-drop}
-use Rattle.typst_kinds.specs.Head.{Head}
-use Rattle.typst_tree.specs.Tree.{Tree}
-use Rattle.typst_tree.specs.Numbers.{numbered_list}
-use Rattle.typst_tree.specs.Same.{front}
-use Rattle.typst_tree.specs.Replace.{kids_of, with_kids, back, exchanged, replaced, Reaches}
-use Rattle.typst_tree.specs.Laws.{touched, touched_by, Keeps}
 use Rattle.typst_tree.proofs.SpansAside.{trees_forest}
 use Rattle.typst_tree.proofs.SetAside.{aside}
 use Rattle.typst_tree.proofs.AlongPath.{inside, exchange_some, exchange_none, grown}

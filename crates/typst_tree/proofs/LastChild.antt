@@ -1,12 +1,7 @@
 -- A loop that changes each element of a list but one, which is changed behind the loop.
-use Rattle.std.proofs.lemmas.Grind.{common_steps}
-use Rattle.std.proofs.Common.{◌≡◌, ◌≢◌, ℕ, zero, suc, ◌+◌, ◌*◌, ◌<◌, ◌≤◌, List, ◌∷◌, ◌++◌, length, map, take, drop, get_or, get_or-set_other, get_or-set_same, refl, ap, sym, ◌∙◌, arith, inl, inr, append-nil, length-append, length-drop, rules, []}
-use Rattle.std.proofs.Math.ListN.{set, get_or-map}
-use Rattle.std.proofs.lemmas.Bool.{cases_eq}
+use Rattle.typst_tree.proofs.Cited.{common_steps, ◌≡◌, ◌≢◌, ℕ, zero, suc, ◌+◌, ◌*◌, ◌<◌, ◌≤◌, List, ◌∷◌, ◌++◌, length, map, take, drop, get_or, get_or-set_other, get_or-set_same, refl, ap, sym, ◌∙◌, arith, inl, inr, append-nil, length-append, length-drop, rules, [], set, get_or-map, cases_eq, Tree, forest, count, nodes, numbered, numbered_list}
 use Rattle.std.proofs.lemmas.List.{set_comm, set-set, set-get_or, set_past, get_or_default, take_all, drop_all, length-map, length-take-le}
 use Rattle.std.proofs.lemmas.List.Edits.{map_over_more}
-use Rattle.typst_tree.specs.Tree.{Tree, forest, count, nodes}
-use Rattle.typst_tree.specs.Numbers.{numbered, numbered_list}
 use Rattle.typst_tree.proofs.Forests.{map_over_all}
 use Rattle.typst_tree.proofs.Numbering.{numbered_more, length_numbered}
 

@@ -1,12 +1,5 @@
 -- The last leaf below a number, in a node and in what is below it.
-use Rattle.std.proofs.Common.{◌≡◌, ℕ, ◌+◌, ◌<◌, ◌≤◌, true, min, List, ◌∷◌, ◌++◌, length, take, drop, Option, Some, None, refl, ap, sym, ◌∙◌, arith, []}
-use Rattle.std.specs.Prelude.{nat_lt, IfSome, option_map}
-use Rattle.std.proofs.lemmas.Bool.{cases_lt}
-use Rattle.std.proofs.lemmas.Bool.Decides.{nat_tests}
-use Rattle.typst_tree.specs.Tree.{Tree, forest, nodes, count, places, preorder}
-use Rattle.typst_tree.specs.Walks.{last_leaf, if_none, Within}
-use Rattle.typst_tree.specs.Found.{IsUnder, last_of, FindsLast, LooksBack}
-use Rattle.typst_tree.specs.declared.back.Found.{Found}
+use Rattle.typst_tree.proofs.Cited.{◌≡◌, ℕ, ◌+◌, ◌<◌, ◌≤◌, true, min, List, ◌∷◌, ◌++◌, length, take, drop, Option, Some, None, refl, ap, sym, ◌∙◌, arith, [], cases_lt, nat_tests, Tree, forest, nodes, count, places, preorder, last_leaf, if_none, Within, IsUnder, last_of, FindsLast, LooksBack, Found, nat_lt, IfSome, option_map}
 use Rattle.typst_tree.specs.declared.back.Seen.{Seen}
 use Rattle.typst_tree.specs.declared.back.Seen.TheVariants as seen
 use Rattle.typst_tree.proofs.LastLeaf.{last_append, last_none, preorder_split}

@@ -1,12 +1,5 @@
 -- The laws of the last leaf.
-use Rattle.std.proofs.lemmas.Grind.{common_steps}
-use Rattle.std.proofs.Common.{◌≡◌, ℕ, suc, ◌+◌, ◌-◌, ◌^◌, ◌<◌, ◌≤◌, List, ◌∷◌, ◌++◌, length, take, drop, Option, Some, None, refl, ap, sym, ◌∙◌, arith, get_or, append_assoc, append-nil, length-append, false, ◌&&◌, []}
-use Rattle.std.specs.Prelude.{nat_lt, if◌then◌else◌}
-use Rattle.std.proofs.lemmas.List.{take_more, take-append-drop}
-use Rattle.std.proofs.lemmas.Bool.Decides.{nat_tests}
-use native.Mathlib.Numerals.{unary_clauses}
-use Rattle.typst_tree.specs.Tree.{Tree, forest, nodes, count, places, preorder, saturated}
-use Rattle.typst_tree.specs.Walks.{last_leaf, if_none, is_leaf}
+use Rattle.typst_tree.proofs.Cited.{common_steps, ◌≡◌, ℕ, suc, ◌+◌, ◌-◌, ◌^◌, ◌<◌, ◌≤◌, List, ◌∷◌, ◌++◌, length, take, drop, Option, Some, None, refl, ap, sym, ◌∙◌, arith, get_or, append_assoc, append-nil, length-append, false, ◌&&◌, [], take_more, take-append-drop, nat_tests, Tree, forest, nodes, count, places, preorder, saturated, last_leaf, if_none, is_leaf, unary_clauses, nat_lt, if◌then◌else◌}
 use Rattle.typst_tree.proofs.WalksInPreorder.{length_preorder}
 
 if_none_assoc : (x y z : Option ℕ) → if_none (if_none x y) z ≡ if_none x (if_none y z)

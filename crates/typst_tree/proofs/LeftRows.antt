@@ -1,16 +1,6 @@
 -- What is left of a walk in preorder, row by row.
-use Rattle.std.proofs.lemmas.Grind.{common_steps}
-use Rattle.std.proofs.Common.{◌≡◌, ℕ, ◌+◌, Option, Result, IfOk, Bool, cond, true, false, ◌||◌, List, ◌∷◌, ◌++◌, length, map, refl, ap, sym, subst, ◌∙◌, arith, append_assoc, append-nil, []}
-use Rattle.std.specs.Iterator.{YieldsFirstBy}
-use Rattle.std.proofs.lemmas.Bool.{or_parts}
-use Rattle.std.proofs.lemmas.List.{map-append}
-use Rattle.std.proofs.lemmas.List.Elements.{filter-append}
-use Rattle.typst_kinds.specs.Head.{has_any}
-use Rattle.typst_tree.specs.Tree.{Forest, none, more, Tree, forest, places, preorder, saturated, text_of, have_diagnostics}
-use Rattle.typst_tree.specs.Preorder.{Visited, visited, row, walk, below, is_marked, marked, is_diagnosed, diagnosed}
-use Rattle.typst_tree.specs.LeftRows.{left, left_above, IsReady, IsAtMarked}
+use Rattle.typst_tree.proofs.Cited.{common_steps, ◌≡◌, ℕ, ◌+◌, Bool, cond, true, false, ◌||◌, List, ◌∷◌, ◌++◌, length, map, refl, ap, sym, ◌∙◌, arith, append_assoc, append-nil, [], or_parts, map-append, filter-append, has_any, Forest, none, more, Tree, forest, places, preorder, saturated, text_of, have_diagnostics, Visited, row, walk, below, is_marked, marked, is_diagnosed, diagnosed, left, left_above, IsReady, IsAtMarked}
 use Rattle.typst_tree.specs.declared.preorder.Row.{Row}
-use Rattle.typst_tree.specs.declared.preorder.Visit.{Visit}
 
 nodes_of_row : (o d : ℕ) (f : Forest) → map (λ (v : Visited). v.node) (row o d f) ≡ preorder f
 nodes_of_row o d none = refl
@@ -60,17 +50,9 @@ none_marked o d (more h ks r) e =
 pub passed_unmarked : (v : Visited) (here behind above : List Visited) → here ≡ v ∷ (below v ++ behind) → is_marked v ≡ false → marked (here ++ above) ≡ marked (behind ++ above)
 passed_unmarked v here behind above h e = grind (arith, or_parts, append_assoc, cond, filter-append, none_marked)
 
--- a marked node is the next one
-pub at_marked : (v : Visited) (here later above : List Visited) → here ≡ v ∷ later → is_marked v ≡ true → IsAtMarked (here ++ above)
-at_marked v here later above h m = subst (λ vs. IsAtMarked (vs ++ above)) (sym h) m
-
 -- none is left where the row of the next node is passed
 pub at_end : (here : Row) (above : List Row) → IsReady here above → length here.trees.now ≡ 0 → IsAtMarked (left here ++ left_above above)
 at_end here above r e = grind (arith, common_steps)
-
--- a step after unmarked nodes were passed
-pub ok_marked : {E : Type 0} (old mid new : List Visited) (r : Result (Option Visit) E) → marked mid ≡ marked old → IsAtMarked mid → IfOk r (λ o. YieldsFirstBy visited (λ (vs : List Visited). vs) mid o new) → IfOk r (λ o. YieldsFirstBy visited marked old o new)
-ok_marked old mid new r k m y = grind arith
 
 past_clean : (v : Visited) (vs : List Visited) → has_any v.node.head.diagnostics ≡ false → diagnosed (v ∷ vs) ≡ diagnosed vs
 past_clean v vs e = ap (λ b. cond b (v ∷ diagnosed vs) (diagnosed vs)) e

@@ -1,6 +1,6 @@
 -- Where the clauses are proved. A function that isn't named here needs no lemma.
---   inner, and counts of all children           AddedChildren: one_more, adds_more; ChildlessLeaves: whole_more
---   has_diagnostics                             Marks: have_more, has_same, has_synthesized, have_kind, any_pushed
+--   inner, and counts of all children           AddedChildren: one_more; ChildlessLeaves: whole_more
+--   has_diagnostics                             Marks: have_more, has_same, has_synthesized, have_kind
 --   drop                                        Fewer: most-swap_remove
 --   try_clone                                   Copies: way_down, way_up, copied, copied_back
 --   the texts of an error                       Waiting: opened, closed
@@ -54,17 +54,18 @@ pub mod Waiting
 --   Boundary                             Boundaries: rear, onward, backward
 --   the place in a long row              Forks: holds_behind, open_child, placed_first, tops, ends_by
 --   parent                               Parents: parent_is; Branches: above_is, no_parent
---   next_sibling                         Siblings: find_past, find_here; Branches: behind_above; Rows: beside
+--   next_sibling                         Siblings: find_past; Branches: behind_above; Rows: beside
 --   next_leaf, leftmost_leaf             FoundFrom: found_in, from_on, from_below; PassesOver; Branches: leaf_found, leaf_not_found, over_above
 --   leaf_at                              PassesOver: byte_first, byte_next, byte_below, byte_none
 --   prev_leaf                            LastLeaf: back; LastFrom: last_in, last_lift, last_past; FoundBelow: itself, above, joined; Forks: holds_joined; Rows: step_back; Branches: until_here, until_top
 --   find: a node finds itself            FindsOwnSpan: finds_own; SingleNodes: same_span
 --   find, find_number from `ordered`     RisingNumbers: none_past, found_only
 --   is_ordered                           OrderBelow: nodes_within, order_own, order_child, order_node_but
---   Preorder                             LeftRows; next_marked: ok_marked; next_diagnosed: diagnosed_next, diagnosed_same
+--   Preorder                             LeftRows; next_diagnosed: diagnosed_next, diagnosed_same
 -- For crates above: Boundaries: shared; Inside; LastLeaf: last_append, last_none; PassesOver: no_child_before, no_child_after; RisingNumbers: rising_from; SingleNodes; WalksInPreorder.
 pub mod Boundaries
 pub mod Branches
+pub mod Cited
 pub mod FindsOwnSpan
 pub mod Forks
 pub mod FoundBelow

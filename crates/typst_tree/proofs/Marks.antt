@@ -1,17 +1,5 @@
 -- Which trees have diagnostics.
-use Rattle.std.proofs.lemmas.Grind.{common_steps}
-use Rattle.std.proofs.Common.{◌≡◌, ℕ, suc, ◌+◌, ◌<◌, ◌≤◌, Bool, true, false, ◌||◌, List, ◌∷◌, ◌++◌, length, map, take, drop, get_or, zero, Some, if◌then◌else◌, refl, ap, sym, ◌∙◌, arith, []}
-use Rattle.std.specs.Prelude.{slice_range}
-use Rattle.std.proofs.Math.ListN.{set}
-use Rattle.std.proofs.lemmas.List.{take_more, take-append-drop, set_split, set-get_or}
-use Rattle.std.proofs.lemmas.List.Folds.{drop_split}
-use Rattle.typst_kinds.specs.declared.kind.SyntaxKind.{SyntaxKind}
-use Rattle.typst_kinds.specs.Kinds.{is_error}
-use Rattle.typst_kinds.specs.Span.{SpanValue}
-use Rattle.typst_kinds.specs.Head.{Own, has_any, spanned}
-use Rattle.typst_tree.specs.declared.replace.Counts.{Counts}
-use Rattle.typst_tree.specs.Tree.{Forest, none, more, Tree, forest, bare, bare_forest, have_diagnostics, has_diagnostics, with_each, synthesized, with_kind, at_tree}
-use Rattle.typst_tree.specs.Replace.{kids_of, have_others, swapped}
+use Rattle.typst_tree.proofs.Cited.{common_steps, ◌≡◌, ℕ, suc, ◌+◌, ◌<◌, ◌≤◌, Bool, true, false, ◌||◌, List, ◌∷◌, ◌++◌, length, map, take, drop, get_or, zero, Some, if◌then◌else◌, refl, ap, sym, ◌∙◌, arith, [], slice_range, set, take_more, take-append-drop, set_split, set-get_or, drop_split, SyntaxKind, SpanValue, Own, has_any, spanned, Forest, none, more, Tree, forest, bare, bare_forest, have_diagnostics, has_diagnostics, with_each, synthesized, with_kind, at_tree, kids_of, have_others, swapped, is_error, Counts}
 use Rattle.typst_tree.proofs.SpansAside.{over, trees_forest, forest_bare}
 use Rattle.typst_tree.proofs.Forests.{kids_kind}
 use Rattle.typst_tree.proofs.ReplacesChildren.{swapped_bare}

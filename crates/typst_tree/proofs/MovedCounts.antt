@@ -1,14 +1,5 @@
 -- What a node's children add up to after some of them made way for others.
-use Rattle.std.proofs.Common.{◌≡◌, ℕ, suc, ◌+◌, ◌-◌, ◌^◌, ◌<◌, ◌≤◌, List, ◌∷◌, ◌++◌, length, map, take, drop, get_or, Some, ap, sym, ◌∙◌, arith, length-append, append-nil, []}
-use Rattle.std.specs.Prelude.{slice_range}
-use Rattle.std.proofs.Math.ListN.{set}
-use Rattle.std.proofs.lemmas.List.{take-append-drop, set_split, set-get_or}
-use Rattle.std.proofs.lemmas.List.Folds.{drop_split}
-use Rattle.typst_kinds.specs.Head.{Head, Own, kept}
-use Rattle.typst_tree.specs.declared.replace.Counts.{Counts}
-use Rattle.typst_tree.specs.Tree.{Tree, forest, joined, count, saturated, text_of, nodes, bare, bare_forest}
-use Rattle.typst_tree.specs.Order.{IsWholeForest}
-use Rattle.typst_tree.specs.Replace.{kids_of, swapped}
+use Rattle.typst_tree.proofs.Cited.{◌≡◌, ℕ, suc, ◌+◌, ◌-◌, ◌^◌, ◌<◌, ◌≤◌, List, ◌∷◌, ◌++◌, length, map, take, drop, get_or, Some, ap, sym, ◌∙◌, arith, length-append, append-nil, [], slice_range, set, take-append-drop, set_split, set-get_or, drop_split, Head, Own, kept, Tree, forest, joined, count, saturated, text_of, nodes, bare, bare_forest, IsWholeForest, kids_of, swapped, Counts}
 use Rattle.typst_tree.proofs.SpansAside.{over, trees_forest, forest_bare}
 use Rattle.typst_tree.proofs.Numbering.{count_bare, joined_bare}
 use Rattle.typst_tree.proofs.Stretches.{count-append}

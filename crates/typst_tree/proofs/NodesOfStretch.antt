@@ -1,13 +1,7 @@
 -- A stretch of a tree's nodes, said in two ways.
-use Rattle.std.proofs.lemmas.Grind.{common_steps}
-use Rattle.std.proofs.Common.{◌≡◌, ℕ, ◌+◌, ◌-◌, ◌<◌, ◌^◌, List, ◌∷◌, ◌++◌, length, take, drop, Some, refl, ap, sym, subst, ◌∙◌, arith, length-append, Bool, []}
-use Rattle.std.specs.Prelude.{slice_get, unwrap_or}
+use Rattle.typst_tree.proofs.Cited.{common_steps, ◌≡◌, ℕ, ◌+◌, ◌-◌, ◌<◌, ◌^◌, List, ◌∷◌, ◌++◌, length, take, drop, Some, refl, ap, sym, subst, ◌∙◌, arith, length-append, Bool, [], take-length, take-append_seam, drop-append_seam, Tree, forest, nodes, places, preorder, saturated, text_of, first_at, Within, Stands, at, node_of, first_below, slice_get, unwrap_or}
 use Rattle.std.specs.Option.{option_map}
 use Rattle.std.proofs.lemmas.List.{take-append-drop, length-take-le}
-use Rattle.std.proofs.Math.Seq.{take-length, take-append_seam, drop-append_seam}
-use Rattle.typst_tree.specs.Tree.{Tree, forest, nodes, places, preorder, saturated, text_of}
-use Rattle.typst_tree.specs.Walks.{first_at, Within, Stands}
-use Rattle.typst_tree.specs.Steps.{at, node_of, first_below}
 use Rattle.typst_tree.proofs.WalksInPreorder.{first_same, within_in, within_first, within_rest, length_preorder}
 
 pub standing : (xs : List Tree) (k b : ℕ) (ys : List Tree) → Stands xs k b ys → Within 0 0 xs k b ys

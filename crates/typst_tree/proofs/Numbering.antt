@@ -1,14 +1,7 @@
 -- The equations of numbered forests.
-use Rattle.std.proofs.lemmas.Grind.{common_steps}
-use Rattle.std.proofs.Common.{◌≡◌, ◌≢◌, get_or-set_other, ℕ, zero, suc, ◌+◌, ◌*◌, ◌<◌, ◌≤◌, List, ◌∷◌, ◌++◌, length, take, drop, get_or, refl, ap, ◌∙◌, arith, append-nil, add-one, ◌^◌, []}
-use Rattle.std.proofs.Math.ListN.{set}
-use Rattle.std.proofs.Math.Nat.{mul-le-mul_left, mul-le-mul_right}
-use Rattle.std.proofs.lemmas.List.{take_all, drop_all, with_items_is, get_or_default}
+use Rattle.typst_tree.proofs.Cited.{common_steps, ◌≡◌, ◌≢◌, get_or-set_other, ℕ, zero, suc, ◌+◌, ◌*◌, ◌<◌, ◌≤◌, List, ◌∷◌, ◌++◌, length, take, drop, get_or, refl, ap, ◌∙◌, arith, append-nil, add-one, ◌^◌, [], set, take_all, drop_all, with_items_is, get_or_default, Head, bare_head, Forest, none, more, Tree, forest, joined, count, nodes, text_of, bare, bare_forest, saturated, placed, numbered, numbered_forest, numbered_list, stride, mul-le-mul_left, mul-le-mul_right}
 use Rattle.std.specs.Global.{Vec}
 use Rattle.std.specs.Vec.{with_items}
-use Rattle.typst_kinds.specs.Head.{Head, bare_head}
-use Rattle.typst_tree.specs.Tree.{Forest, none, more, Tree, forest, joined, count, nodes, text_of, bare, bare_forest, saturated}
-use Rattle.typst_tree.specs.Numbers.{placed, numbered, numbered_forest, numbered_list, stride}
 
 pub count_bare : (f : Forest) → count (bare_forest f) ≡ count f
 count_bare none = refl

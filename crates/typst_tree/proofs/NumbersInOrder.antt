@@ -1,13 +1,5 @@
 -- Numbers that stand in order.
-use Rattle.std.proofs.Common.{◌≡◌, ℕ, ◌+◌, ◌*◌, ◌/◌, ◌<◌, ◌≤◌, Bool, true, false, List, ◌∷◌, ◌++◌, refl, ap, arith, []}
-use Rattle.std.specs.Prelude.{All}
-use Rattle.std.proofs.Math.Nat.{mul-le-mul_left}
-use Rattle.std.proofs.lemmas.List.Elements.{All-cons}
-use Rattle.std.proofs.lemmas.List.Kept.{AllPairs-cons}
-use Rattle.typst_kinds.specs.Span.{number_of}
-use Rattle.typst_kinds.specs.Head.{Head}
-use Rattle.typst_tree.specs.Tree.{Forest, none, more, Tree, count, nodes}
-use Rattle.typst_tree.specs.Numbers.{stride, placed, numbered_forest, numbered}
+use Rattle.typst_tree.proofs.Cited.{◌≡◌, ℕ, ◌+◌, ◌*◌, ◌/◌, ◌<◌, ◌≤◌, Bool, true, false, List, ◌∷◌, ◌++◌, refl, ap, arith, [], All, All-cons, AllPairs-cons, number_of, Head, Forest, none, more, Tree, count, nodes, stride, placed, numbered_forest, numbered, mul-le-mul_left}
 use Rattle.typst_tree.specs.Order.{IsWholeForest, IsWhole, numbers, numbers_of, AreInOrder, upper_at, IsOrdered, IsNumbered}
 
 -- a stride gives each node a number

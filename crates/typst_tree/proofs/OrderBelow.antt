@@ -1,12 +1,6 @@
 -- Numbers that are in order below an end, node by node.
-use Rattle.std.proofs.Common.{◌≡◌, ℕ, zero, suc, ◌+◌, ◌<◌, ◌≤◌, List, ◌∷◌, ◌++◌, length, get_or, Option, ap, sym, subst, arith, append_assoc, []}
-use Rattle.std.specs.Prelude.{All, IfSome, option_to_list}
-use Rattle.std.proofs.lemmas.List.Elements.{All-cons}
-use Rattle.std.proofs.lemmas.List.Kept.{AllPairs-cons}
-use Rattle.typst_kinds.specs.Span.{number_of}
-use Rattle.typst_tree.specs.Tree.{Tree, forest, nodes, count}
+use Rattle.typst_tree.proofs.Cited.{◌≡◌, ℕ, zero, suc, ◌+◌, ◌<◌, ◌≤◌, List, ◌∷◌, ◌++◌, length, get_or, Option, ap, sym, subst, arith, append_assoc, [], All, IfSome, option_to_list, All-cons, AllPairs-cons, number_of, Tree, forest, nodes, count, number_at}
 use Rattle.typst_tree.specs.Order.{numbers, numbers_of, AreInOrder}
-use Rattle.typst_tree.specs.Ordered.{number_at}
 use Rattle.typst_tree.proofs.Numbering.{nodes_at}
 
 -- the numbers are at least a, and each is above the one before it

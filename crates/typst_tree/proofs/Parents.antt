@@ -1,14 +1,5 @@
 -- Where a node's parent is found.
-use Rattle.std.proofs.Common.{◌≡◌, ℕ, zero, suc, ◌+◌, ◌-◌, ◌<◌, ◌≤◌, ◌==◌, true, false, List, ◌∷◌, ◌++◌, length, take, Option, Some, None, refl, ap, sym, ◌∙◌, arith, inl, inr, append-nil, []}
-use Rattle.std.specs.Prelude.{slice_get}
-use Rattle.std.specs.List.{list_any}
-use Rattle.std.proofs.lemmas.Bool.{cases_lt}
-use Rattle.std.proofs.lemmas.Bool.Decides.{nat_tests}
-use Rattle.std.proofs.lemmas.Option.{same_Some, none-some}
-use Rattle.typst_tree.specs.Tree.{Forest, none, more, Tree, forest, trees, count, nodes, places, preorder}
-use Rattle.typst_tree.specs.Walks.{numbers, first_at, has_child, Stands, if_none}
-use Rattle.typst_tree.specs.Rows.{IsChild}
-use Rattle.typst_tree.specs.Steps.{at, parent}
+use Rattle.typst_tree.proofs.Cited.{◌≡◌, ℕ, zero, suc, ◌+◌, ◌-◌, ◌<◌, ◌≤◌, ◌==◌, true, false, List, ◌∷◌, ◌++◌, length, take, Option, Some, None, refl, ap, sym, ◌∙◌, arith, inl, inr, append-nil, [], list_any, cases_lt, nat_tests, same_Some, none-some, Forest, none, more, Tree, forest, trees, count, nodes, places, preorder, numbers, first_at, has_child, Stands, if_none, IsChild, at, parent, slice_get}
 use Rattle.typst_tree.proofs.LastLeaf.{if_none_nothing}
 use Rattle.typst_tree.proofs.NodesOfStretch.{stands_get, standing}
 use Rattle.typst_tree.proofs.PassesOver.{no_number_below, no_number_above, no_child_above}

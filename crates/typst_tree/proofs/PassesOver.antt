@@ -1,11 +1,5 @@
 -- Where a walk finds nothing for sure.
-use Rattle.std.proofs.lemmas.Grind.{common_steps}
-use Rattle.std.proofs.Common.{◌≡◌, ℕ, ◌+◌, ◌<◌, ◌≤◌, ◌==◌, Bool, true, false, ◌&&◌, List, ◌∷◌, ◌++◌, length, ◌^◌, None, Some, refl, ap, ◌∙◌, arith, length-append, []}
-use Rattle.std.specs.Prelude.{nat_le, nat_lt, if◌then◌else◌}
-use Rattle.std.specs.List.{list_any}
-use Rattle.std.proofs.lemmas.Bool.Decides.{nat_tests}
-use Rattle.typst_tree.specs.Tree.{Forest, none, more, Tree, forest, count, nodes, joined, text_of, preorder, places, saturated}
-use Rattle.typst_tree.specs.Walks.{numbers, texts, first_at, if_none, has_child, is_leaf_from, holds_byte, is_childless}
+use Rattle.typst_tree.proofs.Cited.{common_steps, ◌≡◌, ℕ, ◌+◌, ◌<◌, ◌≤◌, ◌==◌, Bool, true, false, ◌&&◌, List, ◌∷◌, ◌++◌, length, ◌^◌, None, Some, refl, ap, ◌∙◌, arith, length-append, [], list_any, nat_tests, Forest, none, more, Tree, forest, count, nodes, joined, text_of, preorder, places, saturated, numbers, texts, first_at, if_none, has_child, is_leaf_from, holds_byte, is_childless, nat_le, nat_lt, if◌then◌else◌}
 use Rattle.typst_tree.proofs.LastLeaf.{if_none_nothing}
 use Rattle.typst_tree.proofs.WalksInPreorder.{length_preorder, length_places, texts_preorder, first_append, first_of_more, first_same, found_next, none_between, usize_saturated}
 

@@ -1,9 +1,5 @@
 -- Which nodes on a path have diagnostics, at them or below them.
-use Rattle.std.proofs.Common.{◌≡◌, ℕ, zero, suc, ◌+◌, ◌-◌, ◌<◌, ◌≤◌, Bool, true, false, ◌||◌, nat_lt, List, ◌∷◌, length, drop, get_or, Some, if◌then◌else◌, slice_get, slice_set, refl, ap, sym, ◌∙◌, arith, []}
-use Rattle.std.proofs.lemmas.List.{drop_more}
-use Rattle.typst_kinds.specs.Head.{Head, has_any}
-use Rattle.typst_tree.specs.Tree.{Tree, forest, have_diagnostics, has_diagnostics}
-use Rattle.typst_tree.specs.Replace.{kids_of, node_at, put_at, have_others, levels_above, marked_levels}
+use Rattle.typst_tree.proofs.Cited.{◌≡◌, ℕ, zero, suc, ◌+◌, ◌-◌, ◌<◌, ◌≤◌, Bool, true, false, ◌||◌, nat_lt, List, ◌∷◌, length, drop, get_or, Some, if◌then◌else◌, slice_get, slice_set, refl, ap, sym, ◌∙◌, arith, [], drop_more, Head, has_any, Tree, forest, have_diagnostics, has_diagnostics, kids_of, node_at, put_at, have_others, levels_above, marked_levels}
 use Rattle.typst_tree.proofs.SpansAside.{over, trees_forest}
 use Rattle.typst_tree.proofs.StepDown.{slice_get_is}
 use Rattle.typst_tree.proofs.Marks.{have_set}

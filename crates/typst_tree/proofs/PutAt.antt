@@ -1,12 +1,5 @@
 -- The node at a path's end, exchanged for another one.
-use Rattle.std.proofs.Common.{◌≡◌, ℕ, zero, suc, ◌+◌, ◌<◌, ◌≤◌, List, ◌∷◌, length, drop, get_or, Option, Some, None, refl, ap, sym, subst, ◌∙◌, arith, append-nil, length-append, rules, []}
-use Rattle.std.specs.Prelude.{option_map, option_and_then, slice_get, slice_set}
-use Rattle.std.proofs.Math.ListN.{set}
-use Rattle.std.proofs.lemmas.List.{drop_more}
-use Rattle.typst_kinds.specs.Head.{Head}
-use Rattle.typst_tree.specs.Tree.{Tree, forest, trees, joined, nodes, text_of}
-use Rattle.typst_tree.specs.Order.{IsWholeForest}
-use Rattle.typst_tree.specs.Replace.{kids_of, with_kids, At, node_at, put_at, Reaches, replaced, replaced_at}
+use Rattle.typst_tree.proofs.Cited.{◌≡◌, ℕ, zero, suc, ◌+◌, ◌<◌, ◌≤◌, List, ◌∷◌, length, drop, get_or, Option, Some, None, refl, ap, sym, subst, ◌∙◌, arith, append-nil, length-append, rules, [], set, drop_more, Head, Tree, forest, trees, joined, nodes, text_of, IsWholeForest, kids_of, with_kids, At, node_at, put_at, Reaches, replaced, replaced_at, option_map, option_and_then, slice_get, slice_set}
 use Rattle.typst_tree.proofs.SpansAside.{over, trees_forest, forest_trees}
 use Rattle.typst_tree.proofs.Numbering.{some_nodes}
 use Rattle.typst_tree.proofs.MovedCounts.{Moved, set_moved}

@@ -1,16 +1,5 @@
 -- Where replacing is refused.
-use Rattle.std.proofs.Common.{◌≡◌, ℕ, zero, suc, ◌+◌, ◌-◌, ◌*◌, ◌<◌, ◌≤◌, ◌&&◌, inl, inr, max, Bool, true, false, List, ◌∷◌, ◌++◌, length, take, drop, map, Option, Some, None, refl, ap, sym, ◌∙◌, arith, if◌then◌else◌, []}
-use Rattle.std.specs.Prelude.{slice_range, nat_le, option_map}
-use Rattle.std.proofs.lemmas.Bool.Decides.{nat_tests}
-use Rattle.std.proofs.lemmas.List.{take_rest}
-use Rattle.std.proofs.lemmas.Option.{slice_get_past}
-use Rattle.typst_tree.specs.declared.replace.Stretch.{Stretch}
-use Rattle.typst_kinds.specs.Span.{SpanValue, number_of}
-use Rattle.typst_kinds.specs.Head.{Head}
-use Rattle.typst_tree.specs.Tree.{Tree, forest, count, bare, bare_forest}
-use Rattle.typst_tree.specs.Same.{front}
-use Rattle.typst_tree.specs.Replace.{kids_of, with_kids, has_room, is_all, growth, stretch, fit, middle, back, in_file, swapped, exchanged, renumbered, replaced, Reaches}
-use Rattle.typst_tree.specs.Laws.{IsFull}
+use Rattle.typst_tree.proofs.Cited.{◌≡◌, ℕ, zero, suc, ◌+◌, ◌-◌, ◌*◌, ◌<◌, ◌≤◌, ◌&&◌, inl, inr, max, Bool, true, false, List, ◌∷◌, ◌++◌, length, take, drop, map, Option, Some, None, refl, ap, sym, ◌∙◌, arith, if◌then◌else◌, [], slice_range, nat_le, option_map, nat_tests, take_rest, slice_get_past, Stretch, SpanValue, number_of, Head, Tree, forest, count, bare, bare_forest, front, kids_of, with_kids, has_room, is_all, growth, stretch, fit, middle, back, in_file, swapped, exchanged, renumbered, replaced, Reaches, IsFull}
 use Rattle.typst_tree.proofs.SpansAside.{forest_bare}
 use Rattle.typst_tree.proofs.Numbering.{count_bare}
 use Rattle.typst_tree.proofs.Stretches.{count-append}

@@ -1,17 +1,5 @@
 -- Replacing puts the new children in place of the old ones, spans aside.
-use Rattle.std.proofs.Common.{◌≡◌, ℕ, suc, ◌+◌, ◌-◌, ◌*◌, ◌<◌, ◌≤◌, List, ◌∷◌, ◌++◌, length, take, drop, map, get_or, Option, Some, None, refl, ap, sym, ◌∙◌, arith, append_assoc, length-append, []}
-use Rattle.std.specs.Prelude.{slice_get, slice_range}
-use Rattle.std.proofs.Math.ListN.{set}
-use Rattle.std.proofs.Math.Seq.{take-append-add, drop-append-add}
-use Rattle.std.proofs.lemmas.List.{take-append-drop, take-append-le, drop-append-le, take_at, drop_at, map-append, map-set, set_split, set-get_or}
-use Rattle.std.proofs.lemmas.List.Folds.{drop_split}
-use Rattle.std.proofs.lemmas.Option.{slice_get_within, get_or_from_slice_get}
-use Rattle.typst_tree.specs.declared.replace.Stretch.{Stretch}
-use Rattle.typst_kinds.specs.Head.{Head, bare_head}
-use Rattle.typst_tree.specs.Tree.{Tree, forest, joined, text_of, nodes, bare, at_child}
-use Rattle.typst_tree.specs.Numbers.{numbered_list}
-use Rattle.typst_tree.specs.Same.{front}
-use Rattle.typst_tree.specs.Replace.{kids_of, with_kids, middle, back, swapped, exchanged, renumbered, replaced, replaced_at, At, Reaches}
+use Rattle.typst_tree.proofs.Cited.{◌≡◌, ℕ, suc, ◌+◌, ◌-◌, ◌*◌, ◌<◌, ◌≤◌, List, ◌∷◌, ◌++◌, length, take, drop, map, get_or, Option, Some, None, refl, ap, sym, ◌∙◌, arith, append_assoc, length-append, [], set, take-append-add, drop-append-add, take-append-drop, take-append-le, drop-append-le, take_at, drop_at, map-append, map-set, set_split, set-get_or, drop_split, slice_get_within, get_or_from_slice_get, Stretch, Head, bare_head, Tree, forest, joined, text_of, nodes, bare, at_child, numbered_list, front, kids_of, with_kids, middle, back, swapped, exchanged, renumbered, replaced, replaced_at, At, Reaches, slice_get, slice_range}
 use Rattle.typst_tree.specs.Laws.{put_at, start_in, or_none, start_at}
 use Rattle.typst_tree.proofs.SpansAside.{forest_trees, forest_bare}
 use Rattle.typst_tree.proofs.Forests.{forest_set}

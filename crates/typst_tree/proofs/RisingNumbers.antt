@@ -1,15 +1,6 @@
 -- Numbers that rise, and searches for one of them.
-use Rattle.std.proofs.Common.{◌≡◌, ℕ, zero, suc, take, drop, ◌+◌, ◌<◌, ◌≤◌, Bool, true, false, IsTrue, List, ◌∷◌, ◌++◌, length, get_or, map, Option, None, refl, ap, sym, subst, ◌∙◌, arith, rules, []}
-use Rattle.std.specs.Prelude.{All, AllPairs, IfSome}
-use Rattle.std.proofs.lemmas.List.{map-append}
-use Rattle.std.proofs.lemmas.List.Elements.{All-cons}
-use Rattle.std.proofs.lemmas.List.Kept.{AllPairs-cons}
-use Rattle.std.proofs.lemmas.Bool.Decides.{nat_tests}
-use Rattle.typst_kinds.specs.Span.{number_of}
-use Rattle.typst_tree.specs.Tree.{Forest, none, more, Tree, forest, places, preorder, saturated, count, joined}
+use Rattle.typst_tree.proofs.Cited.{◌≡◌, ℕ, zero, suc, take, drop, ◌+◌, ◌<◌, ◌≤◌, Bool, true, false, IsTrue, List, ◌∷◌, ◌++◌, length, get_or, map, Option, None, refl, ap, sym, subst, ◌∙◌, arith, rules, [], All, AllPairs, IfSome, map-append, All-cons, AllPairs-cons, nat_tests, number_of, Forest, none, more, Tree, forest, places, preorder, saturated, count, joined, first_at, Stands, begins_past, IsKey}
 use Rattle.typst_tree.specs.Order.{numbers, numbers_of, AreInOrder}
-use Rattle.typst_tree.specs.Walks.{first_at, Stands}
-use Rattle.typst_tree.specs.Ordered.{begins_past, IsKey}
 use Rattle.typst_tree.proofs.LastLeaf.{if_none_nothing, preorder_split}
 use Rattle.typst_tree.proofs.NodesOfStretch.{standing}
 use Rattle.typst_tree.proofs.Rows.{passed_front}

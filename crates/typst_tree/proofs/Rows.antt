@@ -1,14 +1,6 @@
 -- Children that stand side by side.
-use Rattle.std.proofs.lemmas.Grind.{common_steps}
-use Rattle.std.proofs.Common.{◌≡◌, Bool, ℕ, zero, suc, ◌+◌, ◌-◌, ◌<◌, ◌≤◌, ◌^◌, List, ◌∷◌, ◌++◌, length, take, drop, Some, None, refl, ap, sym, subst, ◌∙◌, arith, append-nil, length-append, get_or, rules, []}
-use Rattle.std.specs.Prelude.{slice_get}
-use Rattle.std.proofs.lemmas.Bool.{cases_lt}
-use Rattle.std.proofs.lemmas.Option.{same_Some, none-some, slice_get_read}
-use Rattle.typst_tree.specs.Tree.{Forest, none, more, Tree, forest, trees, count, nodes, places, preorder, joined, text_of, saturated}
+use Rattle.typst_tree.proofs.Cited.{common_steps, ◌≡◌, Bool, ℕ, zero, suc, ◌+◌, ◌-◌, ◌<◌, ◌≤◌, ◌^◌, List, ◌∷◌, ◌++◌, length, take, drop, Some, None, refl, ap, sym, subst, ◌∙◌, arith, append-nil, length-append, get_or, rules, [], cases_lt, same_Some, none-some, slice_get_read, Forest, none, more, Tree, forest, trees, count, nodes, places, preorder, joined, text_of, saturated, IsPassed, Stands, Within, texts, first_at, IsChild, slice_get}
 use Rattle.typst_tree.proofs.SpansAside.{trees_forest}
-use Rattle.typst_tree.specs.Passed.{IsPassed}
-use Rattle.typst_tree.specs.Walks.{Stands, Within, texts, first_at}
-use Rattle.typst_tree.specs.Rows.{IsChild}
 use Rattle.typst_tree.proofs.LastLeaf.{preorder_split}
 use Rattle.typst_tree.proofs.NodesOfStretch.{stands_row}
 use Rattle.typst_tree.proofs.WalksInPreorder.{length_preorder, texts_preorder, within_first, within_in, first_append, first_same, turn}

@@ -1,11 +1,6 @@
 -- `same_tree` is the test of `bare t ≡ bare u`.
-use Rattle.std.proofs.Common.{◌≡◌, ℕ, ◌+◌, ◌<◌, ◌≤◌, Bool, true, false, ◌&&◌, IsTrue, List, ◌∷◌, length, drop, get_or, refl, ap, subst, arith, []}
-use Rattle.std.proofs.lemmas.Bool.Decides.{nat_tests}
-use Rattle.std.proofs.lemmas.List.{drop_more, drop_all}
-use Rattle.std.proofs.Common.{min}
+use Rattle.typst_tree.proofs.Cited.{◌≡◌, ℕ, ◌+◌, ◌<◌, ◌≤◌, Bool, true, false, ◌&&◌, IsTrue, List, ◌∷◌, length, drop, get_or, refl, ap, subst, arith, [], nat_tests, drop_more, drop_all, min, Tree, tree_code, bare, same_code, same_tree, front}
 use base.Stored.{Gv, gnil, gnum, gcons}
-use Rattle.typst_tree.specs.Tree.{Tree, tree_code, bare}
-use Rattle.typst_tree.specs.Same.{same_code, same_tree, front}
 
 pub code_same : (a : Gv) → same_code a a ≡ true
 code_same gnil = refl

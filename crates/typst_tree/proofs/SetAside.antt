@@ -1,12 +1,6 @@
 -- The trees that are set aside at the front and at the end.
-use Rattle.std.proofs.Common.{◌≡◌, ℕ, ◌+◌, ◌-◌, ◌≤◌, Bool, true, false, List, ◌∷◌, ◌++◌, length, take, drop, map, reverse, refl, ap, sym, ◌∙◌, arith, append_assoc, add-one, if◌then◌else◌, []}
-use Rattle.std.specs.Prelude.{slice_range}
+use Rattle.typst_tree.proofs.Cited.{◌≡◌, ℕ, ◌+◌, ◌-◌, ◌≤◌, Bool, true, false, List, ◌∷◌, ◌++◌, length, take, drop, map, reverse, refl, ap, sym, ◌∙◌, arith, append_assoc, add-one, if◌then◌else◌, [], slice_range, drop_split, take-add, Tree, bare, same_tree, front, middle, back}
 use Rattle.std.proofs.lemmas.List.{take-append-drop, take-take, drop-drop, drop-take, take_at, length-take, length-drop, length-reverse, reverse-append, reverse-reverse, map-append}
-use Rattle.std.proofs.lemmas.List.Folds.{drop_split}
-use Rattle.std.proofs.Math.Seq.{take-add}
-use Rattle.typst_tree.specs.Tree.{Tree, bare}
-use Rattle.typst_tree.specs.Same.{same_tree, front}
-use Rattle.typst_tree.specs.Replace.{middle, back}
 use Rattle.typst_tree.proofs.SameTree.{same_tree_is}
 
 pub front_le-left : (xs ys : List Tree) → front xs ys ≤ length xs

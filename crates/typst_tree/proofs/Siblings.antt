@@ -1,15 +1,9 @@
 -- The laws of siblings.
-use Rattle.std.proofs.Common.{◌≡◌, ℕ, zero, suc, ◌+◌, ◌≤◌, List, ◌∷◌, Some, true, false, Bool, refl, ap, sym, ◌∙◌, arith, map, take, drop, []}
-use Rattle.std.specs.Prelude.{find}
-use Rattle.typst_tree.specs.Tree.{Tree, forest, count}
-use Rattle.typst_tree.specs.Walks.{numbers}
+use Rattle.typst_tree.proofs.Cited.{◌≡◌, ℕ, zero, suc, ◌+◌, ◌≤◌, List, ◌∷◌, false, Bool, refl, ap, sym, ◌∙◌, arith, map, take, drop, [], find, Tree, forest, count, numbers}
 use Rattle.typst_tree.specs.Steps.{At, at, is_sibling_after}
 
 pub find_past : (p : At → Bool) (x : At) (xs ys : List At) → ys ≡ x ∷ xs → false ≡ p x → find p ys ≡ find p xs
 find_past p x xs ys e fails = ap (find p) e ∙ rw (sym fails) refl
-
-pub find_here : (p : At → Bool) (x : At) (xs ys : List At) → ys ≡ x ∷ xs → true ≡ p x → find p ys ≡ Some x
-find_here p x xs ys e holds = ap (find p) e ∙ rw (sym holds) refl
 
 none_first : (a : At) (root : Tree) (n : ℕ) → n ≤ a.number → is_sibling_after a (at root n) ≡ false
 none_first a root n h = grind arith

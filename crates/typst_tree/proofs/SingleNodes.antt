@@ -1,8 +1,5 @@
 -- Equations of single nodes: children, and spans.
-use Rattle.std.proofs.Common.{◌≡◌, ℕ, suc, ◌==◌, Bool, true, false, List, ◌∷◌, length, Option, refl, sym, subst, arith, IsTrue, ◌↔◌, []}
-use Rattle.std.proofs.lemmas.Bool.Decides.{nat_tests}
-use Rattle.typst_tree.specs.Tree.{Tree, forest}
-use Rattle.typst_tree.specs.Walks.{is_childless, same_place}
+use Rattle.typst_tree.proofs.Cited.{◌≡◌, ℕ, suc, ◌==◌, Bool, true, false, List, ◌∷◌, length, Option, refl, sym, subst, arith, IsTrue, ◌↔◌, [], nat_tests, Tree, forest, is_childless, same_place}
 
 pub childless_forest : (ts : List Tree) → is_childless (forest ts) ≡ (length ts == 0)
 childless_forest [] = refl

@@ -1,9 +1,5 @@
 -- What it is for two trees to be the same, spans aside.
-use Rattle.std.proofs.lemmas.Grind.{common_steps}
-use Rattle.std.proofs.Common.{◌≡◌, ◌≢◌, ℕ, zero, suc, List, ◌∷◌, map, refl, ap, sym, ◌∙◌, ◌<◌, length, get_or, arith, []}
-use Rattle.std.proofs.lemmas.List.{length-map}
-use Rattle.typst_kinds.specs.Head.{Head, bare_head}
-use Rattle.typst_tree.specs.Tree.{Forest, none, more, Tree, forest, trees, bare, bare_forest}
+use Rattle.typst_tree.proofs.Cited.{common_steps, ◌≡◌, ◌≢◌, ℕ, zero, suc, List, ◌∷◌, map, refl, ap, sym, ◌∙◌, ◌<◌, length, get_or, arith, [], length-map, Head, bare_head, Forest, none, more, Tree, forest, trees, bare, bare_forest}
 
 pub trees_forest : (ts : List Tree) → trees (forest ts) ≡ ts
 trees_forest [] = refl

@@ -1,11 +1,5 @@
 -- One step down a path.
-use Rattle.std.proofs.Common.{◌≡◌, ℕ, zero, suc, ◌<◌, List, ◌∷◌, length, get_or, Some, None, refl, ap, ◌∙◌, arith, []}
-use Rattle.std.specs.Prelude.{option_map, slice_get, slice_range}
-use Rattle.std.proofs.Math.ListN.{set}
-use Rattle.typst_kinds.specs.Span.{SpanValue}
-use Rattle.typst_kinds.specs.Head.{Head}
-use Rattle.typst_tree.specs.Tree.{Tree, forest, trees}
-use Rattle.typst_tree.specs.Replace.{At, Reaches, replaced_at, replaced, in_file, swapped}
+use Rattle.typst_tree.proofs.Cited.{◌≡◌, ℕ, zero, suc, ◌<◌, List, ◌∷◌, length, get_or, Some, None, refl, ap, ◌∙◌, arith, [], set, SpanValue, Head, Tree, forest, trees, At, Reaches, replaced_at, replaced, in_file, swapped, option_map, slice_get, slice_range}
 use Rattle.typst_tree.proofs.SpansAside.{over, trees_forest}
 
 pub record Reached (i : ℕ) (rest : List ℕ) (a b : ℕ) (xs : List Tree) : Type 0 where

@@ -1,14 +1,6 @@
 -- The children after a replacement, cut where those that are renumbered begin and end.
-use Rattle.std.proofs.Common.{◌≡◌, ℕ, ◌+◌, ◌-◌, ◌*◌, ◌<◌, ◌≤◌, Bool, true, false, List, ◌∷◌, ◌++◌, length, take, drop, Some, None, refl, ap, sym, subst, ◌∙◌, arith, append_assoc, if◌then◌else◌, []}
-use Rattle.std.specs.Prelude.{slice_range, nat_le}
+use Rattle.typst_tree.proofs.Cited.{◌≡◌, ℕ, ◌+◌, ◌-◌, ◌*◌, ◌<◌, ◌≤◌, Bool, true, false, List, ◌∷◌, ◌++◌, length, take, drop, Some, None, refl, ap, sym, subst, ◌∙◌, arith, append_assoc, if◌then◌else◌, [], slice_range, nat_le, drop_split, nat_tests, Stretch, Head, Tree, forest, count, has_room, is_all, growth, fit, renumbered, exchanged, zero, suc, max, Result, OnOk, is_err}
 use Rattle.std.proofs.lemmas.List.{take-append-drop, take-take, drop-take, take_at, drop_at, length-take, length-drop, length-append, length-take-le}
-use Rattle.std.proofs.lemmas.List.Folds.{drop_split}
-use Rattle.std.proofs.lemmas.Bool.Decides.{nat_tests}
-use Rattle.typst_tree.specs.declared.replace.Stretch.{Stretch}
-use Rattle.typst_kinds.specs.Head.{Head}
-use Rattle.typst_tree.specs.Tree.{Tree, forest, count}
-use Rattle.typst_tree.specs.Replace.{has_room, is_all, growth, fit, renumbered, exchanged}
-use Rattle.std.specs.Prelude.{zero, suc, max, Result, OnOk, is_err}
 
 pub take_split : {X : Type 0} (xs : List X) (l f : ℕ) → l ≤ f → take f xs ≡ take l xs ++ slice_range xs l f
 take_split xs l f h =

@@ -1,8 +1,5 @@
 -- Rows of trees that wait in a list, the next one last.
-use Rattle.std.proofs.lemmas.Grind.{common_steps}
-use Rattle.std.proofs.Common.{◌≡◌, ℕ, ◌+◌, ◌*◌, ◌<◌, List, ◌∷◌, ◌++◌, length, map, Bor, ap, sym, ◌∙◌, arith, append-nil, append_assoc, []}
-use Rattle.std.proofs.lemmas.List.{map-append}
-use Rattle.typst_tree.specs.Tree.{Tree, forest, joined, count, text_of}
+use Rattle.typst_tree.proofs.Cited.{common_steps, ◌≡◌, ℕ, ◌+◌, ◌*◌, ◌<◌, List, ◌∷◌, ◌++◌, length, map, Bor, ap, sym, ◌∙◌, arith, append-nil, append_assoc, [], map-append, Tree, forest, joined, count}
 
 -- the rows behind references
 abbrev pub rows_of : List (Bor (List Tree)) → List (List Tree)
@@ -29,10 +26,6 @@ waiting_more (r ∷ rows) row =
 pub turns_more : (rows : List (List Tree)) (row : List Tree) → turns (rows ++ row ∷ []) ≡ turns rows + (2 * count (forest row) + 1)
 turns_more [] row = omega arith
 turns_more (r ∷ rows) row = omega (arith, turns_more rows row)
-
--- the root's own text is written and its children wait
-pub first_row : (before out text : List ℕ) (t : Tree) (row : List Tree) → out ≡ before ++ text → text ≡ t.head.text → forest row ≡ t.kids → out ++ waiting_text (row ∷ []) ≡ before ++ text_of t
-first_row before out text t row e own kids = grind (arith, append_assoc)
 
 -- a row's first tree gives its own text, and then come its children and the trees behind it
 opened_text : (rows : List (List Tree)) (t : Tree) (row kids : List Tree) → forest kids ≡ t.kids → joined (forest (t ∷ row)) ++ waiting_text rows ≡ t.head.text ++ waiting_text ((rows ++ row ∷ []) ++ kids ∷ [])

@@ -1,9 +1,5 @@
 -- The laws of walks in preorder.
-use Rattle.std.proofs.Common.{◌≡◌, ℕ, ◌+◌, ◌<◌, ◌≤◌, ◌^◌, Bool, true, false, cond, List, ◌∷◌, ◌++◌, length, drop, Some, None, refl, ap, sym, subst, ◌∙◌, arith, length-append, append_assoc, append-nil, get_or, []}
-use Rattle.std.proofs.lemmas.List.{drop_more}
-use native.Mathlib.Numerals.{unary_clauses}
-use Rattle.typst_tree.specs.Tree.{Forest, none, more, Tree, forest, count, nodes, joined, text_of, preorder, places, saturated}
-use Rattle.typst_tree.specs.Walks.{texts, first_at, if_none, Within}
+use Rattle.typst_tree.proofs.Cited.{◌≡◌, ℕ, ◌+◌, ◌<◌, ◌≤◌, ◌^◌, Bool, true, false, cond, List, ◌∷◌, ◌++◌, length, drop, Some, None, refl, ap, sym, subst, ◌∙◌, arith, length-append, append_assoc, append-nil, get_or, [], drop_more, Forest, none, more, Tree, forest, count, nodes, joined, text_of, preorder, places, saturated, texts, first_at, if_none, Within, unary_clauses}
 
 pub length_preorder : (f : Forest) → length (preorder f) ≡ count f
 length_preorder none = refl

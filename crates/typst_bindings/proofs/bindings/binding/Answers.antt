@@ -1,5 +1,4 @@
-use Rattle.typst_language.proofs.Steps.{does-next, does-gives, does-node}
-use Rattle.typst_bindings.specs.Bindings.{binding, bound_shape}
+use Rattle.typst_bindings.proofs.Cited.{does-next, does-gives, does-node, binding, bound_shape}
 use Rattle.typst_bindings.proofs.bindings.binding.Goals as goal
 
 pub returns : goal.returns

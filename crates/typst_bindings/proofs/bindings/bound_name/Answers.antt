@@ -1,6 +1,4 @@
-use Rattle.std.proofs.Common.{sym, ◌∙◌}
-use Rattle.typst_language.proofs.Steps.{does-next, does-gives, does-peek, does-pick, does-other}
-use Rattle.typst_bindings.specs.Bindings.{bound_name}
+use Rattle.typst_bindings.proofs.Cited.{sym, ◌∙◌, does-next, does-gives, does-peek, does-pick, does-other, bound_name}
 use Rattle.typst_bindings.proofs.bindings.bound_name.Goals as goal
 
 pub returns-then-not-opens_params : goal.returns-then-not-opens_params

@@ -1,8 +1,5 @@
-use Rattle.typst_kinds.specs.Kinds.{same}
+use Rattle.typst_bindings.proofs.Cited.{same, does-next, does-gives, asks-yes, asks-no, bound_part}
 use Rattle.typst_kinds.specs.declared.kind.SyntaxKind.TheVariants as kind
-use Rattle.typst_language.proofs.Steps.{does-next, does-gives}
-use Rattle.typst_language.proofs.Asks.{asks-yes, asks-no}
-use Rattle.typst_bindings.specs.Bindings.{bound_part}
 use Rattle.typst_bindings.proofs.bindings.bound_part.Goals as goal
 
 pub returns-then-eq : goal.returns-then-eq

@@ -1,7 +1,5 @@
 use Rattle.typst_kinds.specs.declared.kind.SyntaxKind.TheVariants as kind
-use Rattle.typst_language.specs.Shape.{becomes}
-use Rattle.typst_language.proofs.Steps.{does-next, does-node}
-use Rattle.typst_bindings.specs.Bindings.{let_binding}
+use Rattle.typst_bindings.proofs.Cited.{becomes, does-next, does-node, let_binding}
 use Rattle.typst_bindings.proofs.bindings.let_binding.Goals as goal
 
 pub returns : goal.returns

@@ -1,7 +1,4 @@
-use Rattle.std.proofs.Common.{◌∙◌, ap}
-use Rattle.typst_language.proofs.Steps.{does-next, does-gives, does-node, does-peek}
-use Rattle.typst_language.proofs.Values.{does-value}
-use Rattle.typst_bindings.specs.Closures.{named, after_name, name_shape, closure_shape}
+use Rattle.typst_bindings.proofs.Cited.{◌∙◌, ap, does-next, does-gives, does-node, does-peek, does-value, named, after_name, name_shape, closure_shape}
 use Rattle.typst_bindings.proofs.closures.named.Goals as goal
 
 pub returns : goal.returns

@@ -1,7 +1,4 @@
-use Rattle.std.proofs.Common.{◌∙◌, ap}
-use Rattle.typst_language.proofs.Steps.{does-next, does-gives, does-node, does-peek}
-use Rattle.typst_language.proofs.Values.{does-value}
-use Rattle.typst_bindings.specs.Closures.{placeholder, after_underscore, underscore_shape, closure_shape}
+use Rattle.typst_bindings.proofs.Cited.{◌∙◌, ap, does-next, does-gives, does-node, does-peek, does-value, placeholder, after_underscore, underscore_shape, closure_shape}
 use Rattle.typst_bindings.proofs.closures.placeholder.Goals as goal
 
 pub returns : goal.returns

@@ -1,15 +1,6 @@
-use Rattle.std.proofs.Common.{refl, ap, ◌∙◌, Some, map}
+use Rattle.typst_bindings.proofs.Cited.{refl, ap, ◌∙◌, Some, map, same, seen, does-next, does-gives, asks-yes, asks-no, is-not, is-so, does-value, name_of, defaulted, does-seeing}
 use Rattle.std.specs.Prelude.{is_some}
-use Rattle.typst_kinds.specs.Kinds.{same}
 use Rattle.typst_kinds.specs.declared.kind.SyntaxKind.TheVariants as kind
-use Rattle.typst_language.specs.Shape.{seen}
-use Rattle.typst_language.proofs.Steps.{does-next, does-gives}
-use Rattle.typst_language.proofs.Changes.{does-seeing}
-use Rattle.typst_language.proofs.Asks.{asks-yes, asks-no}
-use Rattle.typst_language.proofs.Nots.{is-not, is-so}
-use Rattle.typst_language.proofs.Values.{does-value}
-use Rattle.typst_bindings.specs.Patterns.{name_of}
-use Rattle.typst_bindings.specs.Params.{defaulted}
 use Rattle.typst_bindings.proofs.parameters.defaulted.Goals as goal
 
 pub returns-then-ne : goal.returns-then-ne

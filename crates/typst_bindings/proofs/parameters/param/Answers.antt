@@ -1,10 +1,5 @@
-use Rattle.std.proofs.Common.{codes}
-use Rattle.typst_kinds.specs.Kinds.{same}
+use Rattle.typst_bindings.proofs.Cited.{codes, same, does-next, does-gives, does-node, asks-yes, asks-no, named_shape, sink_shape, param}
 use Rattle.typst_kinds.specs.declared.kind.SyntaxKind.TheVariants as kind
-use Rattle.typst_language.proofs.Steps.{does-next, does-gives, does-node}
-use Rattle.typst_language.proofs.Asks.{asks-yes, asks-no}
-use Rattle.typst_bindings.specs.Patterns.{named_shape, sink_shape}
-use Rattle.typst_bindings.specs.Params.{param}
 use Rattle.typst_bindings.proofs.parameters.param.Goals as goal
 
 pub returns-then-eq : goal.returns-then-eq

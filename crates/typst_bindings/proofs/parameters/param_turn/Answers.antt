@@ -1,7 +1,4 @@
-use Rattle.typst_kinds.specs.Kinds.{is_terminator}
-use Rattle.typst_language.proofs.Steps.{does-next, does-gives, does-pick, does-other}
-use Rattle.typst_language.proofs.Asks.{found, asks-yes, asks-no}
-use Rattle.typst_bindings.specs.Params.{param_turn, begins_param}
+use Rattle.typst_bindings.proofs.Cited.{is_terminator, does-next, does-gives, does-pick, does-other, found, asks-yes, asks-no, param_turn, begins_param}
 use Rattle.typst_bindings.proofs.parameters.param_turn.Goals as goal
 
 pub returns-then-is_terminator : goal.returns-then-is_terminator

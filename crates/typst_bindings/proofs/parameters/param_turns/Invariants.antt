@@ -1,8 +1,4 @@
-use Rattle.typst_language.specs.Meaning.{Level}
-use Rattle.typst_language.specs.Bytes.{bytes_left}
-use Rattle.typst_language.specs.View.{Fills}
-use Rattle.typst_language.proofs.Steps.{Turning}
-use Rattle.typst_bindings.specs.Params.{param_turn}
+use Rattle.typst_bindings.proofs.Cited.{Level, Fills, Turning, param_turn, bytes_left}
 use Rattle.typst_bindings.proofs.parameters.param_turns.Given as goal
 
 abbrev pub invariant-turns : goal.invariant-turns

@@ -1,11 +1,5 @@
-use Rattle.std.proofs.Common.{◌∙◌, ap}
-use Rattle.typst_kinds.specs.Kinds.{same}
+use Rattle.typst_bindings.proofs.Cited.{◌∙◌, ap, same, does-next, does-gives, does-node, does-entered, encloses, in_parens, params}
 use Rattle.typst_kinds.specs.declared.kind.SyntaxKind.TheVariants as kind
-use Rattle.typst_language.proofs.Steps.{does-next, does-gives, does-node}
-use Rattle.typst_language.proofs.Values.{does-entered}
-use Rattle.typst_language.specs.Shape.{encloses}
-use Rattle.typst_bindings.specs.Parts.{in_parens}
-use Rattle.typst_bindings.specs.Params.{params}
 use Rattle.typst_bindings.proofs.parameters.params.Goals as goal
 
 pub returns : goal.returns

@@ -1,9 +1,5 @@
-use Rattle.std.proofs.Common.{◌∙◌, ap}
-use Rattle.typst_kinds.specs.Kinds.{same, is_terminator}
+use Rattle.typst_bindings.proofs.Cited.{◌∙◌, ap, same, is_terminator, does-gives, asks-yes, asks-no, separator}
 use Rattle.typst_kinds.specs.declared.kind.SyntaxKind.TheVariants as kind
-use Rattle.typst_language.proofs.Steps.{does-gives}
-use Rattle.typst_language.proofs.Asks.{asks-yes, asks-no}
-use Rattle.typst_bindings.specs.Parts.{separator}
 use Rattle.typst_bindings.proofs.parts.separator.Goals as goal
 
 pub returns-then-is_terminator : goal.returns-then-is_terminator

@@ -1,9 +1,5 @@
-use Rattle.std.proofs.Common.{◌∙◌, ap, map}
-use Rattle.typst_language.specs.Shape.{seen}
+use Rattle.typst_bindings.proofs.Cited.{◌∙◌, ap, map, seen, does-next, does-gives, does-node, does-value, does-seeing}
 use Rattle.typst_language.specs.Shape.Shape.{keeps}
-use Rattle.typst_language.proofs.Steps.{does-next, does-gives, does-node}
-use Rattle.typst_language.proofs.Changes.{does-seeing}
-use Rattle.typst_language.proofs.Values.{does-value}
 use Rattle.typst_bindings.specs.Patterns.{bound_name, bound_change, name_of}
 use Rattle.typst_bindings.proofs.patterns.bound_name.Goals as goal
 

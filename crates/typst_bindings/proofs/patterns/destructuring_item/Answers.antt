@@ -1,10 +1,5 @@
-use Rattle.std.proofs.Common.{◌∙◌, ap, codes}
-use Rattle.typst_kinds.specs.Kinds.{same}
+use Rattle.typst_bindings.proofs.Cited.{◌∙◌, ap, codes, same, does-next, does-gives, does-node, asks-yes, asks-no, does-value, destructuring_item, named_shape, sink_shape, with_part}
 use Rattle.typst_kinds.specs.declared.kind.SyntaxKind.TheVariants as kind
-use Rattle.typst_language.proofs.Steps.{does-next, does-gives, does-node}
-use Rattle.typst_language.proofs.Asks.{asks-yes, asks-no}
-use Rattle.typst_language.proofs.Values.{does-value}
-use Rattle.typst_bindings.specs.Patterns.{destructuring_item, named_shape, sink_shape, with_part}
 use Rattle.typst_bindings.proofs.patterns.destructuring_item.Goals as goal
 
 pub returns-then-eq : goal.returns-then-eq

@@ -1,5 +1,4 @@
-use Rattle.std.proofs.Common.{arith}
-use Rattle.typst_language.proofs.Steps.{turning-next, does-last}
+use Rattle.typst_bindings.proofs.Cited.{arith, turning-next, does-last}
 use Rattle.typst_bindings.proofs.patterns.destructuring_items.Goals as goal
 
 pub returns-then-not-goes_on : goal.returns-then-not-goes_on

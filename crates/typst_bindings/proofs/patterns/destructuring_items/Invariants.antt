@@ -1,8 +1,4 @@
-use Rattle.typst_language.specs.Meaning.{Level}
-use Rattle.typst_language.specs.Bytes.{bytes_left}
-use Rattle.typst_language.specs.View.{Fills}
-use Rattle.typst_language.proofs.Steps.{Turning}
-use Rattle.typst_bindings.specs.Patterns.{destructuring_turn}
+use Rattle.typst_bindings.proofs.Cited.{Level, Fills, Turning, destructuring_turn, bytes_left}
 use Rattle.typst_bindings.proofs.patterns.destructuring_items.Given as goal
 
 abbrev pub invariant-turns : goal.invariant-turns

@@ -1,9 +1,4 @@
-use Rattle.std.proofs.Common.{ap, true}
-use Rattle.typst_kinds.specs.Kinds.{is_terminator}
-use Rattle.typst_language.proofs.Steps.{does-next, does-gives, does-pick, does-other}
-use Rattle.typst_language.proofs.Asks.{found, asks-yes, asks-no}
-use Rattle.typst_language.proofs.Values.{does-value}
-use Rattle.typst_bindings.specs.Patterns.{destructuring_turn, begins_part}
+use Rattle.typst_bindings.proofs.Cited.{ap, true, is_terminator, does-next, does-gives, does-pick, does-other, found, asks-yes, asks-no, does-value, destructuring_turn, begins_part}
 use Rattle.typst_bindings.proofs.patterns.destructuring_turn.Goals as goal
 
 pub returns-then-is_terminator : goal.returns-then-is_terminator

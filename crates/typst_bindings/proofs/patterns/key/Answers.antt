@@ -1,12 +1,6 @@
-use Rattle.std.proofs.Common.{ap, not, refl}
-use Rattle.typst_kinds.specs.Kinds.{same}
+use Rattle.typst_bindings.proofs.Cited.{ap, not, refl, same, does-gives, asks-yes, asks-no, is-not, is-so, key, begins-leaves}
 use Rattle.typst_kinds.specs.declared.kind.SyntaxKind.TheVariants as kind
-use Rattle.typst_language.proofs.Steps.{does-gives}
-use Rattle.typst_language.proofs.Begins.{begins-leaves}
 use Rattle.typst_language.proofs.Either.{does-chosen, does-either, goes-back}
-use Rattle.typst_language.proofs.Asks.{asks-yes, asks-no}
-use Rattle.typst_language.proofs.Nots.{is-not, is-so}
-use Rattle.typst_bindings.specs.Patterns.{key}
 use Rattle.typst_bindings.proofs.PatternFirsts.{begins-name}
 use Rattle.typst_bindings.proofs.patterns.key.Goals as goal
 

@@ -1,5 +1,4 @@
-use Rattle.typst_language.proofs.Steps.{does-next, does-gives, does-pick, does-other}
-use Rattle.typst_bindings.specs.Patterns.{key_or_pattern}
+use Rattle.typst_bindings.proofs.Cited.{does-next, does-gives, does-pick, does-other, key_or_pattern}
 use Rattle.typst_bindings.proofs.patterns.key_or_pattern.Goals as goal
 
 pub returns-then-is_key : goal.returns-then-is_key

@@ -1,9 +1,5 @@
-use Rattle.std.proofs.Common.{◌∙◌, ap}
-use Rattle.typst_kinds.specs.Kinds.{same}
+use Rattle.typst_bindings.proofs.Cited.{◌∙◌, ap, same, does-next, does-gives, does-peek, does-value, name_and_colon}
 use Rattle.typst_kinds.specs.declared.kind.SyntaxKind.TheVariants as kind
-use Rattle.typst_language.proofs.Steps.{does-next, does-gives, does-peek}
-use Rattle.typst_language.proofs.Values.{does-value}
-use Rattle.typst_bindings.specs.Patterns.{name_and_colon}
 use Rattle.typst_bindings.proofs.patterns.name_and_colon.Goals as goal
 
 pub returns : goal.returns

@@ -1,10 +1,5 @@
-use Rattle.std.proofs.Common.{refl}
-use Rattle.typst_kinds.specs.Kinds.{same}
+use Rattle.typst_bindings.proofs.Cited.{refl, same, does-next, does-gives, asks-yes, asks-no, is-not, is-so, part}
 use Rattle.typst_kinds.specs.declared.kind.SyntaxKind.TheVariants as kind
-use Rattle.typst_language.proofs.Steps.{does-next, does-gives}
-use Rattle.typst_language.proofs.Asks.{asks-yes, asks-no}
-use Rattle.typst_language.proofs.Nots.{is-not, is-so}
-use Rattle.typst_bindings.specs.Patterns.{part}
 use Rattle.typst_bindings.proofs.patterns.part.Goals as goal
 
 pub returns-then-ne : goal.returns-then-ne

@@ -1,8 +1,5 @@
-use Rattle.typst_kinds.specs.Kinds.{same}
+use Rattle.typst_bindings.proofs.Cited.{same, does-next, does-gives, does-pick, does-other, found, asks-yes, asks-no, pattern}
 use Rattle.typst_kinds.specs.declared.kind.SyntaxKind.TheVariants as kind
-use Rattle.typst_language.proofs.Steps.{does-next, does-gives, does-pick, does-other}
-use Rattle.typst_language.proofs.Asks.{found, asks-yes, asks-no}
-use Rattle.typst_bindings.specs.Patterns.{pattern}
 use Rattle.typst_bindings.proofs.patterns.pattern.Goals as goal
 
 pub returns-then-eq : goal.returns-then-eq

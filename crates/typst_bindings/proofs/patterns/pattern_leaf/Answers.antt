@@ -1,8 +1,4 @@
-use Rattle.std.proofs.Common.{sym, ◌∙◌}
-use Rattle.typst_kinds.specs.Kinds.{is_keyword}
-use Rattle.typst_language.proofs.Steps.{does-next, does-gives, does-pick, does-other}
-use Rattle.typst_language.proofs.Asks.{found, asks-yes, asks-no}
-use Rattle.typst_bindings.specs.Patterns.{pattern_leaf, begins_leaf}
+use Rattle.typst_bindings.proofs.Cited.{sym, ◌∙◌, is_keyword, does-next, does-gives, does-pick, does-other, found, asks-yes, asks-no, pattern_leaf, begins_leaf}
 use Rattle.typst_bindings.proofs.patterns.pattern_leaf.Goals as goal
 
 pub returns-then-is_keyword : goal.returns-then-is_keyword

@@ -1,6 +1,4 @@
-use Rattle.typst_language.proofs.Steps.{does-next, does-gives}
-use Rattle.typst_language.proofs.Asks.{asks-yes, asks-no}
-use Rattle.typst_bindings.specs.Patterns.{sink, begins_leaf}
+use Rattle.typst_bindings.proofs.Cited.{does-next, does-gives, asks-yes, asks-no, sink, begins_leaf}
 use Rattle.typst_bindings.proofs.patterns.sink.Goals as goal
 
 pub returns-then-not-begins_leaf : goal.returns-then-not-begins_leaf

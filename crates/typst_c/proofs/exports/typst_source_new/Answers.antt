@@ -1,5 +1,4 @@
-use Rattle.std.proofs.Common.{subst, sym}
-use Rattle.typst_c.specs.Refusals.{RefusesText}
+use Rattle.typst_c.proofs.Cited.{subst, sym, RefusesText}
 use Rattle.typst_c.proofs.exports.typst_source_new.Goals as goal
 
 pub returns-in-Ok-clause-refused : goal.returns-in-Ok-clause-refused

@@ -1,7 +1,5 @@
-use Rattle.std.proofs.Common.{◌≡◌, ap, sym, ◌∙◌, refl, length}
-use Rattle.std.proofs.lemmas.Option.{same_Some, none-some}
+use Rattle.typst_c.proofs.Cited.{◌≡◌, ap, sym, ◌∙◌, refl, length, same_Some, none-some, filled}
 use Rattle.typst_kinds.specs.Names.{name_of}
-use Rattle.typst_flat.specs.Records.{filled}
 use Rattle.typst_c.proofs.names.put_kind.Goals as goal
 
 pub returns-in-Some-clause-named : goal.returns-in-Some-clause-named

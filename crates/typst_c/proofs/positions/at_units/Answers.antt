@@ -1,8 +1,4 @@
-use Rattle.std.proofs.Common.{◌≡◌, ◌+◌, ap, sym, subst, ◌∙◌, arith, length}
-use Rattle.std.specs.Str.{IsUtf8, IsCharBoundary}
-use Rattle.std.proofs.lemmas.Option.{same_Some, none-some}
-use Rattle.typst_lines.specs.Lines.{utf16_before}
-use Rattle.typst_c.specs.Positions.{units_before}
+use Rattle.typst_c.proofs.Cited.{◌≡◌, ◌+◌, ap, sym, subst, ◌∙◌, arith, length, same_Some, none-some, IsUtf8, IsCharBoundary, utf16_before, units_before}
 use Rattle.typst_c.proofs.Columns.{none_at, units_fit, units_found, units_within}
 use Rattle.typst_c.proofs.positions.at_units.Goals as goal
 use Rattle.typst_c.proofs.positions.at_units.Goals.{then-there-utf16-via-then-there-utf16, then-there-utf16-via-else-there-utf16+then-byte-range}

@@ -1,9 +1,4 @@
-use Rattle.std.proofs.Common.{◌≡◌, ◌+◌, ◌*◌, ◌-◌, ◌≤◌, ◌++◌, ◌∷◌, [], min, suc, length, take, arith, sym, ap, ◌∙◌, ℕ, List, length-append}
-use Rattle.std.specs.Prelude.{map}
-use Rattle.std.proofs.lemmas.List.{length-map, take-take}
-use Rattle.typst_tree.specs.Tree.{Tree}
-use Rattle.typst_candidates.specs.Candidates.{Candidate, laid, of_child_ranges, child_ranges}
-use Rattle.typst_candidates.specs.Edges.{bytes_of, spelled}
+use Rattle.typst_candidates.proofs.Cited.{◌≡◌, ◌+◌, ◌*◌, ◌-◌, ◌≤◌, ◌++◌, ◌∷◌, [], min, suc, length, take, arith, sym, ap, ◌∙◌, ℕ, List, length-append, length-map, take-take, Tree, Candidate, laid, of_child_ranges, child_ranges, bytes_of, spelled, map}
 use Rattle.typst_candidates.specs.declared.candidate.Candidate as found
 use Rattle.typst_candidates.proofs.Found.{first_of_run, no_more, last_piece, next_piece, one_piece, not_all, all_by_test}
 use Rattle.typst_candidates.proofs.Windows.{added_front, in_window}
@@ -21,12 +16,11 @@ returns-clause-added c = λ bs e path.
 
 pub returns-then-not-lies_in-clause-added : goal.returns-then-not-lies_in-clause-added
 returns-then-not-lies_in-clause-added c = λ bs e path.
-    let ts = c.args.children.now.kids.now in
-    let ends : min c.args.room (suc (length ts)) ≤ c.args.room = omega arith in
+    let ends : min c.args.room (suc (length c.args.children.now.kids.now)) ≤ c.args.room = omega arith in
     let less : c.loop-added.added ≤ c.args.room = omega (arith, c.loop-added-test.true) in
     let long : length (map (spelled path) c.loop-added.found.items) ≡ length (map (spelled path) c.args.found.now.items) + c.loop-added.added = omega (arith, c.loop-added.invariant.many, length-map c.loop-added.found.items (spelled path), length-map c.args.found.now.items (spelled path)) in
     added_front (map (spelled path) c.loop-added.found.items) _ (map (spelled path) c.args.found.now.items) _ c.loop-added.added
-    (c.loop-added.invariant.left bs e path ∙ all_first c.args.children.now.at ts bs c.args.near.first.index c.args.near.end.index (take c.args.depth path) c.args.room (map (spelled path) c.args.found.now.items)) long
+    (c.loop-added.invariant.left bs e path ∙ all_first c.args.children.now.at _ bs c.args.near.first.index c.args.near.end.index (take c.args.depth path) c.args.room (map (spelled path) c.args.found.now.items)) long
     ∙ ap (λ (ds : List Candidate). map (spelled path) c.args.found.now.items ++ ds) (take-take c.loop-added.added c.args.room _ less)
 
 pub returns-then-is_all-clause-added : goal.returns-then-is_all-clause-added

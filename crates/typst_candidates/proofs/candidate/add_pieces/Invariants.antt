@@ -1,7 +1,4 @@
-use Rattle.std.proofs.Common.{◌≡◌, ◌+◌, ◌++◌, ◌-◌, ℕ, List, length, min, suc, take}
-use Rattle.std.specs.Prelude.{map}
-use Rattle.typst_candidates.specs.Candidates.{laid, child_ranges, of_child_ranges}
-use Rattle.typst_candidates.specs.Edges.{bytes_of, spelled, within}
+use Rattle.typst_candidates.proofs.Cited.{◌≡◌, ◌+◌, ◌++◌, ◌-◌, ℕ, List, length, min, suc, take, laid, child_ranges, of_child_ranges, bytes_of, spelled, within, map}
 use Rattle.typst_candidates.proofs.candidate.add_pieces.Given as goal
 
 abbrev pub invariant-loop-added : goal.invariant-loop-added

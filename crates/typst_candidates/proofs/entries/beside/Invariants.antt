@@ -1,5 +1,4 @@
-use Rattle.std.proofs.Common.{◌≡◌, ◌≤◌, ◌-◌, length, take}
-use Rattle.typst_candidates.specs.Packed.{wides}
+use Rattle.typst_candidates.proofs.Cited.{◌≡◌, ◌≤◌, ◌-◌, length, take, wides}
 use Rattle.typst_candidates.proofs.entries.beside.Given as goal
 
 abbrev pub invariant-loop-from : goal.invariant-loop-from

@@ -1,6 +1,4 @@
-use Rattle.std.proofs.Common.{◌≤◌, Option, arith}
-use Rattle.typst_candidates.specs.declared.entry.Entry.{Entry}
-use Rattle.typst_candidates.specs.Packed.{beside}
+use Rattle.typst_candidates.proofs.Cited.{◌≤◌, Option, arith, Entry, beside}
 use Rattle.typst_candidates.proofs.Words.{few, one-more}
 use Rattle.typst_candidates.proofs.entries.block_beside.Goals as goal
 

@@ -1,5 +1,4 @@
-use Rattle.std.proofs.Common.{◌≡◌, take}
-use Rattle.typst_candidates.specs.Packed.{wides}
+use Rattle.typst_candidates.proofs.Cited.{◌≡◌, take, wides}
 use Rattle.typst_candidates.proofs.entries.block_beside.Given as goal
 
 abbrev pub invariant-loop-word : goal.invariant-loop-word

@@ -1,5 +1,4 @@
-use Rattle.std.proofs.Common.{◌≡◌, take}
-use Rattle.typst_candidates.specs.Packed.{spans}
+use Rattle.typst_candidates.proofs.Cited.{◌≡◌, take, spans}
 use Rattle.typst_candidates.proofs.entries.block_spans.Given as goal
 
 abbrev pub invariant-loop-word : goal.invariant-loop-word

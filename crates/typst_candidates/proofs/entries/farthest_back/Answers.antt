@@ -1,8 +1,5 @@
-use Rattle.std.proofs.Common.{◌≡◌, ◌+◌, ◌-◌, ◌<◌, List, false, max, suc, drop, get_or, length, subst, sym, take, arith}
-use Rattle.std.proofs.lemmas.List.{take_rest}
-use Rattle.typst_candidates.specs.declared.entry.Entry.{Entry}
+use Rattle.typst_candidates.proofs.Cited.{◌≡◌, ◌+◌, ◌-◌, ◌<◌, List, false, max, suc, drop, get_or, length, subst, sym, take, arith, take_rest, Entry, GoBack}
 use Rattle.typst_candidates.specs.declared.entry.EntryKind.TheVariants as entry_kind
-use Rattle.typst_candidates.specs.Cursors.{GoBack}
 use Rattle.typst_candidates.proofs.Blocks.{back-more, back-take}
 use Rattle.typst_candidates.proofs.entries.farthest_back.Goals as goal
 

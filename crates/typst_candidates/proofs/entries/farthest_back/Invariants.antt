@@ -1,5 +1,4 @@
-use Rattle.std.proofs.Common.{◌≤◌, ◌^◌, drop, take}
-use Rattle.typst_candidates.specs.Cursors.{GoBack}
+use Rattle.typst_candidates.proofs.Cited.{◌≤◌, ◌^◌, drop, take, GoBack}
 use Rattle.typst_candidates.proofs.entries.farthest_back.Given as goal
 
 abbrev pub invariant-loop-entry : goal.invariant-loop-entry

@@ -1,5 +1,4 @@
-use Rattle.std.proofs.Common.{◌≡◌, ◌%◌, ◌^◌, take}
-use Rattle.typst_candidates.specs.Packed.{lengths}
+use Rattle.typst_candidates.proofs.Cited.{◌≡◌, ◌%◌, ◌^◌, take, lengths}
 use Rattle.typst_candidates.proofs.entries.lengths.Given as goal
 
 abbrev pub invariant-loop-entry : goal.invariant-loop-entry

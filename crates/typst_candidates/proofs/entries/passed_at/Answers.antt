@@ -7,7 +7,4 @@ pub overflow_add-result : goal.overflow_add-result
 overflow_add-result c = let from = c.upto-from.ensures.same c.args.words.now c.args.words.now c.requires.tally refl c.requires.within in grind (arith, wides-more, few)
 
 pub returns : goal.returns
-returns c =
-    let n = c.upto-from.result.number in
-    let from = c.upto-from.ensures.same c.args.words.now c.args.words.now c.requires.tally refl c.requires.within in
-    grind (arith, wides-more c.args.words.now n (c.args.number - n))
+returns c = let n = c.upto-from.result.number in grind (arith, wides-more c.args.words.now n (c.args.number - n))

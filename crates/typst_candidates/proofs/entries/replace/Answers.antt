@@ -1,7 +1,4 @@
-use Rattle.std.proofs.Common.{◌≡◌, ℕ, ◌+◌, ◌-◌, ◌≤◌, true, if◌then◌else◌, List, ◌++◌, length, take, drop, length-drop, length-take-le, drop-drop, ap, sym, ◌∙◌, arith}
-use Rattle.std.specs.Result.{is_ok}
-use Rattle.std.proofs.Math.Seq.{take-append_seam}
-use Rattle.std.proofs.lemmas.List.{take-append-drop}
+use Rattle.typst_candidates.proofs.Cited.{common_steps, ◌≡◌, ℕ, ◌+◌, ◌-◌, ◌≤◌, true, if◌then◌else◌, List, ◌++◌, length, take, drop, length-drop, length-take-le, drop-drop, ap, sym, ◌∙◌, arith, take-append_seam, take-append-drop, is_ok}
 use Rattle.typst_candidates.proofs.Walks.{put-is}
 use Rattle.typst_candidates.proofs.entries.replace.Goals as goal
 
@@ -38,11 +35,6 @@ returns g c =
     let b = c.bring_back.ensures ∙ ap (λ us. take (at + length ps) us ++ (drop gone (drop (at + length ps) us) ++ take gone (drop (at + length ps) us))) one in
     let last = put-is A ps D c.deref_mut-2.result.now c.bring_forward.new.items c.bring_back.new.items at c.len-count.result gone both front n few c.bring_forward.ensures b in
     let there : ℕ = c.extend_from_slice.new.self.len in
-    let two : take there (c.bring_back.new.items ++ drop (length c.bring_back.new.items) c.deref_mut-3.result.now) ≡ c.bring_back.new.items =
-    written c.bring_back.new.items c.deref_mut-3.result.now there second (long ∙ sym length_one) in
     let kept : ℕ = (c.len-count.result + length ps) - gone in
     let cut : at + gone ≡ c.args.to = omega arith in
-    c.truncate.ensures.items
-    ∙ ap (λ us. take kept (take there (c.bring_back.new.items ++ drop (length c.bring_back.new.items) us))) (sym c.deref_mut-3.ensures.value)
-    ∙ ap (take kept) two ∙ last
-    ∙ ap (λ us. A ++ (ps ++ us)) (drop-drop gone at es ∙ ap (λ m. drop m es) cut)
+    grind (arith, common_steps, drop-drop)

@@ -1,5 +1,4 @@
-use Rattle.std.proofs.Common.{◌≡◌, ◌≤◌, ◌-◌, ◌%◌, ◌^◌, length, take}
-use Rattle.typst_candidates.specs.Packed.{spans}
+use Rattle.typst_candidates.proofs.Cited.{◌≡◌, ◌≤◌, ◌-◌, ◌%◌, ◌^◌, length, take, spans}
 use Rattle.typst_candidates.proofs.entries.spans.Given as goal
 
 abbrev pub invariant-loop-from : goal.invariant-loop-from

@@ -1,6 +1,4 @@
-use Rattle.std.proofs.Common.{◌≡◌, ℕ, ◌*◌, ◌/◌, ◌^◌, ◌<◌, bit_or, ap, ◌∙◌, arith}
-use Rattle.std.proofs.lemmas.Nat.{mod_below, or_shifted, pow_pos, shl_whole, shr_split}
-use Rattle.std.proofs.lemmas.Option.{IfSome_then}
+use Rattle.typst_candidates.proofs.Cited.{◌≡◌, ℕ, ◌*◌, ◌/◌, ◌^◌, ◌<◌, bit_or, ap, ◌∙◌, arith, mod_below, or_shifted, pow_pos, shl_whole, shr_split, IfSome_then}
 use Rattle.typst_candidates.proofs.packed.joined.Goals as goal
 
 -- a number with no bits above so many lowest ones

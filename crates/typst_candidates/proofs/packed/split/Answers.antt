@@ -1,5 +1,4 @@
-use Rattle.std.proofs.Common.{◌-◌, bit_and, ap, ◌∙◌}
-use Rattle.std.proofs.lemmas.Nat.{and_mask, one_shl}
+use Rattle.typst_candidates.proofs.Cited.{◌-◌, bit_and, ap, ◌∙◌, and_mask, one_shl}
 use Rattle.typst_candidates.proofs.packed.split.Goals as goal
 
 pub returns-clause-low : goal.returns-clause-low

@@ -1,5 +1,4 @@
-use Rattle.std.proofs.Common.{drop}
-use Rattle.typst_candidates.specs.Records.{AllFit}
+use Rattle.typst_candidates.proofs.Cited.{drop, AllFit}
 use Rattle.typst_candidates.proofs.records.fit.Given as goal
 
 abbrev pub invariant-loop-note : goal.invariant-loop-note

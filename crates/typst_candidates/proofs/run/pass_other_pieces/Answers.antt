@@ -1,5 +1,4 @@
-use Rattle.std.proofs.Common.{arith, ◌≡◌}
-use Rattle.std.proofs.lemmas.Bool.Decides.{nat_tests}
+use Rattle.typst_candidates.proofs.Cited.{arith, ◌≡◌, nat_tests}
 use Rattle.typst_candidates.proofs.Cursors.{cut, end-step}
 use Rattle.typst_candidates.proofs.run.pass_other_pieces.Goals as goal
 

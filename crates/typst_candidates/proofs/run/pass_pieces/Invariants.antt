@@ -1,5 +1,4 @@
-use Rattle.std.proofs.Common.{◌≡◌, ℕ, ◌-◌, ◌≤◌, length, drop}
-use Rattle.typst_candidates.specs.Cursors.{closing_of}
+use Rattle.typst_candidates.proofs.Cited.{◌≡◌, ℕ, ◌-◌, ◌≤◌, length, drop, closing_of}
 use Rattle.typst_candidates.proofs.run.pass_pieces.Given as goal
 
 abbrev pub invariant-loop : goal.invariant-loop

@@ -1,9 +1,5 @@
-use Rattle.typst_kinds.specs.Kinds.{same}
+use Rattle.typst_code.proofs.Cited.{same, does-next, does-gives, does-node, asks-yes, asks-no, does-value, argument, argument_shape}
 use Rattle.typst_kinds.specs.declared.kind.SyntaxKind.TheVariants as kind
-use Rattle.typst_language.proofs.Steps.{does-next, does-gives, does-node}
-use Rattle.typst_language.proofs.Asks.{asks-yes, asks-no}
-use Rattle.typst_language.proofs.Values.{does-value}
-use Rattle.typst_code.specs.Arguments.{argument, argument_shape}
 use Rattle.typst_code.proofs.arguments.argument.Goals as goal
 
 pub returns-then-eq : goal.returns-then-eq

@@ -1,11 +1,6 @@
-use Rattle.std.proofs.Common.{◌∙◌, ap}
-use Rattle.typst_kinds.specs.Kinds.{same}
+use Rattle.typst_code.proofs.Cited.{◌∙◌, ap, same, does-next, at_newline, does-entered, argument_list}
 use Rattle.typst_kinds.specs.declared.kind.SyntaxKind.TheVariants as kind
 use Rattle.typst_language.specs.declared.reading.AtNewline.TheVariants as newline
-use Rattle.typst_language.proofs.Steps.{does-next}
-use Rattle.typst_markup.specs.Markup.{at_newline}
-use Rattle.typst_language.proofs.Values.{does-entered}
-use Rattle.typst_code.specs.Arguments.{argument_list}
 use Rattle.typst_code.proofs.arguments.argument_list.Goals as goal
 
 pub returns : goal.returns

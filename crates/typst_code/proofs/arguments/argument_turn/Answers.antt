@@ -1,8 +1,4 @@
-use Rattle.typst_kinds.specs.Kinds.{is_terminator}
-use Rattle.typst_language.proofs.Steps.{does-next, does-gives, does-pick, does-other}
-use Rattle.typst_language.proofs.Asks.{found, asks-yes, asks-no}
-use Rattle.typst_code.specs.Arguments.{argument_turn}
-use Rattle.typst_code.specs.Groups.{begins_item}
+use Rattle.typst_code.proofs.Cited.{is_terminator, does-next, does-gives, does-pick, does-other, found, asks-yes, asks-no, argument_turn, begins_item}
 use Rattle.typst_code.proofs.arguments.argument_turn.Goals as goal
 
 pub returns-then-is_terminator : goal.returns-then-is_terminator

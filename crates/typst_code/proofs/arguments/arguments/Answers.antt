@@ -1,7 +1,5 @@
 use Rattle.typst_kinds.specs.declared.kind.SyntaxKind.TheVariants as kind
-use Rattle.typst_language.proofs.Steps.{does-next, does-gives, does-node}
-use Rattle.typst_language.specs.Shape.{encloses}
-use Rattle.typst_code.specs.Arguments.{arguments}
+use Rattle.typst_code.proofs.Cited.{does-next, does-gives, does-node, encloses, arguments}
 use Rattle.typst_code.proofs.arguments.arguments.Goals as goal
 
 pub returns : goal.returns

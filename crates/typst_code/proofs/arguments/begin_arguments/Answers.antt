@@ -1,6 +1,4 @@
-use Rattle.std.proofs.Common.{◌∙◌, sym}
-use Rattle.typst_language.proofs.Steps.{does-next, does-gives, does-peek, does-pick, does-other}
-use Rattle.typst_code.specs.Arguments.{begin_arguments}
+use Rattle.typst_code.proofs.Cited.{◌∙◌, sym, does-next, does-gives, does-peek, does-pick, does-other, begin_arguments}
 use Rattle.typst_code.proofs.arguments.begin_arguments.Goals as goal
 
 pub returns-in_ok-missing_arguments : goal.returns-in_ok-missing_arguments

@@ -1,6 +1,4 @@
-use Rattle.std.proofs.Common.{◌∙◌, sym}
-use Rattle.typst_language.proofs.Steps.{does-next, does-gives, does-peek, does-pick, does-other}
-use Rattle.typst_code.specs.Arguments.{content_turn}
+use Rattle.typst_code.proofs.Cited.{◌∙◌, sym, does-next, does-gives, does-peek, does-pick, does-other, content_turn}
 use Rattle.typst_code.proofs.arguments.content_turn.Goals as goal
 
 pub returns-then-not-opens_directly : goal.returns-then-not-opens_directly

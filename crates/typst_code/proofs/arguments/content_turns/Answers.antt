@@ -1,12 +1,8 @@
-use Rattle.std.proofs.Common.{arith}
-use Rattle.typst_language.proofs.Steps.{turning-next, does-last}
+use Rattle.typst_code.proofs.Cited.{arith, turning-next, does-last}
 use Rattle.typst_code.proofs.arguments.content_turns.Goals as goal
 
 pub returns-then-not-goes_on : goal.returns-then-not-goes_on
-returns-then-not-goes_on g c l h b =
-    (c.turns.invariant l h b).rest tt c.content_turn.new.p (does-last h.sound (c.in_ok-more.ensures l h b) (λ more. let stuck = c.goes_on.ensures.stops c.if-not-goes_on.true more in omega arith))
+returns-then-not-goes_on g c l h b = grind (arith, does-last)
 
 pub turns-preserved : goal.turns-preserved
-turns-preserved g c l h b =
-    let goes = c.goes_on.ensures.goes c.if-not-goes_on.false in
-    turning-next h.sound (c.turns.invariant l h b) (rw goes.0 at c.in_ok-more.ensures l h b) (omega arith)
+turns-preserved g c l h b = grind (arith, turning-next)

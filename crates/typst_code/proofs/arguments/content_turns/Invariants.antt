@@ -1,9 +1,4 @@
-use Rattle.typst_language.specs.Meaning.{Level}
-use Rattle.typst_language.specs.Bytes.{bytes_left}
-use Rattle.typst_language.specs.View.{Fills}
-use Rattle.typst_language.proofs.Steps.{Turning}
-use Rattle.typst_code.specs.Outside.{Blocks}
-use Rattle.typst_code.specs.Arguments.{content_turn}
+use Rattle.typst_code.proofs.Cited.{Level, bytes_left, Fills, Turning, Blocks, content_turn}
 use Rattle.typst_code.proofs.arguments.content_turns.Given as goal
 
 abbrev pub invariant-turns : goal.invariant-turns

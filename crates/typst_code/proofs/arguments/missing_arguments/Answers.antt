@@ -1,6 +1,4 @@
-use Rattle.typst_language.proofs.Steps.{does-next, does-gives}
-use Rattle.typst_language.proofs.Asks.{asks-yes, asks-no}
-use Rattle.typst_code.specs.Arguments.{missing_arguments, opens_arguments}
+use Rattle.typst_code.proofs.Cited.{does-next, does-gives, asks-yes, asks-no, missing_arguments, opens_arguments}
 use Rattle.typst_code.proofs.arguments.missing_arguments.Goals as goal
 
 pub returns-in_ok-hint : goal.returns-in_ok-hint

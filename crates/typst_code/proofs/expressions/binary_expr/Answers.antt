@@ -1,6 +1,4 @@
-use Rattle.std.proofs.Common.{sym}
-use Rattle.typst_language.proofs.Steps.{does-next, does-gives}
-use Rattle.typst_code.specs.Expressions.{binary_expr}
+use Rattle.typst_code.proofs.Cited.{sym, does-next, does-gives, binary_expr}
 use Rattle.typst_code.proofs.expressions.binary_expr.Goals as goal
 
 pub returns-clause-means : goal.returns-clause-means

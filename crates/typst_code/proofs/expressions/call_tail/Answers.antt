@@ -1,5 +1,4 @@
-use Rattle.typst_language.proofs.Steps.{does-next, does-gives}
-use Rattle.typst_code.specs.Expressions.{call_tail}
+use Rattle.typst_code.proofs.Cited.{does-next, does-gives, call_tail}
 use Rattle.typst_code.proofs.expressions.call_tail.Goals as goal
 
 pub returns-clause-means : goal.returns-clause-means

@@ -1,6 +1,4 @@
-use Rattle.std.proofs.Common.{refl, arith}
-use Rattle.typst_language.proofs.Grows.{grows-init, grows-next, grows-stuck, grows-last}
-use Rattle.typst_code.specs.Expressions.{code_expr}
+use Rattle.typst_code.proofs.Cited.{refl, arith, grows-init, grows-next, grows-stuck, grows-last, code_expr}
 use Rattle.typst_code.proofs.expressions.code_expr.Goals as goal
 
 pub turns-init : goal.turns-init

@@ -1,9 +1,4 @@
-use Rattle.typst_language.specs.Meaning.{Level}
-use Rattle.typst_language.specs.Bytes.{bytes_left}
-use Rattle.typst_language.specs.View.{Fills}
-use Rattle.typst_language.proofs.Grows.{Grows}
-use Rattle.typst_code.specs.Expressions.{code_primary, code_tail_turn}
-use Rattle.typst_code.specs.Outside.{Blocks}
+use Rattle.typst_code.proofs.Cited.{Level, bytes_left, Fills, Grows, code_primary, code_tail_turn, Blocks}
 use Rattle.typst_code.proofs.expressions.code_expr.Given as goal
 
 abbrev pub invariant-turns : goal.invariant-turns

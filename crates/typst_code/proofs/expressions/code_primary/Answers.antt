@@ -1,6 +1,4 @@
-use Rattle.std.proofs.Common.{sym, ap, ◌∙◌}
-use Rattle.typst_language.proofs.Steps.{does-next, does-peek, does-gives}
-use Rattle.typst_code.specs.Expressions.{code_primary, code_head}
+use Rattle.typst_code.proofs.Cited.{sym, ap, ◌∙◌, does-next, does-peek, does-gives, code_primary, code_head}
 use Rattle.typst_code.specs.declared.heads.CodeHead.TheVariants as head
 use Rattle.typst_code.proofs.Begins.{at-head}
 use Rattle.typst_code.proofs.expressions.code_primary.Goals as goal

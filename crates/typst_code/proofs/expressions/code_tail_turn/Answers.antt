@@ -1,7 +1,4 @@
-use Rattle.std.proofs.Common.{sym, ap, ◌∙◌}
-use Rattle.typst_language.specs.Hand.{as_at_hand}
-use Rattle.typst_language.proofs.Steps.{does-next, does-peek, does-gives}
-use Rattle.typst_code.specs.Expressions.{code_tail_turn, code_tail}
+use Rattle.typst_code.proofs.Cited.{sym, ap, ◌∙◌, does-next, does-peek, does-gives, code_tail_turn, code_tail, as_at_hand}
 use Rattle.typst_code.specs.declared.heads.CodeTail.TheVariants as tail
 use Rattle.typst_code.proofs.Begins.{at-tail}
 use Rattle.typst_code.proofs.expressions.code_tail_turn.Goals as goal

@@ -1,6 +1,4 @@
-use Rattle.typst_language.proofs.Nots.{is-not, is-so}
-use Rattle.typst_language.proofs.Steps.{does-next, does-gives, does-pick, does-other}
-use Rattle.typst_code.specs.Expressions.{direct_field}
+use Rattle.typst_code.proofs.Cited.{is-not, is-so, does-next, does-gives, does-pick, does-other, direct_field}
 use Rattle.typst_code.proofs.expressions.direct_field.Goals as goal
 
 pub returns-then-ne-clause-means : goal.returns-then-ne-clause-means

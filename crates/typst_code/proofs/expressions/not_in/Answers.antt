@@ -1,8 +1,5 @@
-use Rattle.typst_kinds.specs.Kinds.{same}
+use Rattle.typst_code.proofs.Cited.{same, does-next, does-gives, asks-yes, asks-no, not_in}
 use Rattle.typst_kinds.specs.declared.kind.SyntaxKind.TheVariants as kind
-use Rattle.typst_language.proofs.Steps.{does-next, does-gives}
-use Rattle.typst_language.proofs.Asks.{asks-yes, asks-no}
-use Rattle.typst_code.specs.Expressions.{not_in}
 use Rattle.typst_code.proofs.expressions.not_in.Goals as goal
 
 pub returns-then-eq-clause-means : goal.returns-then-eq-clause-means

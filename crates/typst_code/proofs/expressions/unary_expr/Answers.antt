@@ -1,8 +1,5 @@
-use Rattle.std.proofs.Common.{sym}
+use Rattle.typst_code.proofs.Cited.{sym, becomes, does-next, does-node, unary_expr}
 use Rattle.typst_kinds.specs.declared.kind.SyntaxKind.TheVariants as kind
-use Rattle.typst_language.specs.Shape.{becomes}
-use Rattle.typst_language.proofs.Steps.{does-next, does-node}
-use Rattle.typst_code.specs.Expressions.{unary_expr}
 use Rattle.typst_code.proofs.expressions.unary_expr.Goals as goal
 
 pub returns : goal.returns

@@ -1,11 +1,6 @@
-use Rattle.std.proofs.Common.{◌∙◌, ap, sym}
-use Rattle.typst_kinds.specs.Kinds.{same}
+use Rattle.typst_code.proofs.Cited.{◌∙◌, ap, sym, same, does-next, does-gives, does-node, at_newline, does-entered, does-value, group, group_rest, group_shape}
 use Rattle.typst_kinds.specs.declared.kind.SyntaxKind.TheVariants as kind
 use Rattle.typst_language.specs.declared.reading.AtNewline.TheVariants as newline
-use Rattle.typst_language.proofs.Steps.{does-next, does-gives, does-node}
-use Rattle.typst_markup.specs.Markup.{at_newline}
-use Rattle.typst_language.proofs.Values.{does-entered, does-value}
-use Rattle.typst_code.specs.Groups.{group, group_rest, group_shape}
 use Rattle.typst_code.proofs.groups.group.Goals as goal
 
 pub returns : goal.returns

@@ -1,9 +1,4 @@
-use Rattle.typst_kinds.specs.Kinds.{is_terminator}
-use Rattle.typst_language.proofs.Steps.{does-next, does-gives, does-pick, does-other}
-use Rattle.typst_language.proofs.Asks.{found, asks-yes, asks-no}
-use Rattle.typst_language.proofs.Values.{does-value}
-use Rattle.std.proofs.Common.{ap, true}
-use Rattle.typst_code.specs.Groups.{group_turn, begins_item}
+use Rattle.typst_code.proofs.Cited.{is_terminator, does-next, does-gives, does-pick, does-other, found, asks-yes, asks-no, does-value, ap, true, group_turn, begins_item}
 use Rattle.typst_code.proofs.groups.group_turn.Goals as goal
 
 pub returns-then-is_terminator : goal.returns-then-is_terminator

@@ -1,13 +1,7 @@
-use Rattle.std.proofs.Common.{◌∙◌, ap, subst}
+use Rattle.typst_code.proofs.Cited.{◌∙◌, ap, subst, same, does-next, does-gives, does-node, Rewrapped, asks-yes, asks-no, does-value, item, item_shape, misfit}
 use Rattle.std.specs.Prelude.{is_some}
-use Rattle.typst_kinds.specs.Kinds.{same}
 use Rattle.typst_kinds.specs.declared.kind.SyntaxKind.TheVariants as kind
 use Rattle.typst_language.specs.Shape.Shape.{keeps}
-use Rattle.typst_language.proofs.Steps.{does-next, does-gives, does-node}
-use Rattle.typst_language.specs.View.{Rewrapped}
-use Rattle.typst_language.proofs.Asks.{asks-yes, asks-no}
-use Rattle.typst_language.proofs.Values.{does-value}
-use Rattle.typst_code.specs.Groups.{item, item_shape, misfit}
 use Rattle.typst_code.proofs.groups.item.Goals as goal
 
 pub returns-then-eq : goal.returns-then-eq

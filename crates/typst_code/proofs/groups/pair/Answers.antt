@@ -1,13 +1,5 @@
-use Rattle.std.proofs.Common.{refl}
-use Rattle.typst_language.proofs.Nots.{is-not, is-so}
-use Rattle.std.proofs.Common.{◌∙◌, ap, Some, map}
-use Rattle.typst_kinds.specs.Kinds.{same}
+use Rattle.typst_code.proofs.Cited.{refl, is-not, is-so, ◌∙◌, ap, Some, map, same, seen, does-next, does-gives, asks-yes, asks-no, does-value, pair}
 use Rattle.typst_kinds.specs.declared.kind.SyntaxKind.TheVariants as kind
-use Rattle.typst_language.specs.Shape.{seen}
-use Rattle.typst_language.proofs.Steps.{does-next, does-gives}
-use Rattle.typst_language.proofs.Asks.{asks-yes, asks-no}
-use Rattle.typst_language.proofs.Values.{does-value}
-use Rattle.typst_code.specs.Groups.{pair}
 use Rattle.typst_markup.specs.Keys.{key_of}
 use Rattle.typst_language.proofs.Changes.{does-seeing}
 use Rattle.typst_code.proofs.groups.pair.Goals as goal

@@ -1,7 +1,5 @@
 use Rattle.typst_kinds.specs.declared.kind.SyntaxKind.TheVariants as kind
-use Rattle.typst_language.specs.Shape.{becomes}
-use Rattle.typst_language.proofs.Steps.{does-node}
-use Rattle.typst_code.specs.Imports.{import_items}
+use Rattle.typst_code.proofs.Cited.{becomes, does-node, import_items}
 use Rattle.typst_code.proofs.imports.import_items.Goals as goal
 
 pub returns : goal.returns

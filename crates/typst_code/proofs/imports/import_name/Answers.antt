@@ -1,7 +1,5 @@
-use Rattle.typst_kinds.specs.Kinds.{same}
+use Rattle.typst_code.proofs.Cited.{same, asks-yes, asks-no, import_name}
 use Rattle.typst_kinds.specs.declared.kind.SyntaxKind.TheVariants as kind
-use Rattle.typst_language.proofs.Asks.{asks-yes, asks-no}
-use Rattle.typst_code.specs.Imports.{import_name}
 use Rattle.typst_code.proofs.imports.import_name.Goals as goal
 
 pub returns-then-eq : goal.returns-then-eq

@@ -1,11 +1,6 @@
-use Rattle.std.proofs.Common.{◌∙◌, ap}
-use Rattle.typst_kinds.specs.Kinds.{same}
+use Rattle.typst_code.proofs.Cited.{◌∙◌, ap, same, does-next, does-gives, does-node, at_newline, does-entered, import_parens, parens_shape}
 use Rattle.typst_kinds.specs.declared.kind.SyntaxKind.TheVariants as kind
 use Rattle.typst_language.specs.declared.reading.AtNewline.TheVariants as newline
-use Rattle.typst_language.proofs.Steps.{does-next, does-gives, does-node}
-use Rattle.typst_markup.specs.Markup.{at_newline}
-use Rattle.typst_language.proofs.Values.{does-entered}
-use Rattle.typst_code.specs.Imports.{import_parens, parens_shape}
 use Rattle.typst_code.proofs.imports.import_parens.Goals as goal
 
 pub returns : goal.returns

@@ -1,7 +1,4 @@
-use Rattle.typst_kinds.specs.Kinds.{is_terminator}
-use Rattle.typst_language.proofs.Steps.{does-next, does-gives, does-node}
-use Rattle.typst_language.proofs.Asks.{asks-yes, asks-no}
-use Rattle.typst_code.specs.Imports.{import_turn, import_shape}
+use Rattle.typst_code.proofs.Cited.{is_terminator, does-next, does-gives, does-node, asks-yes, asks-no, import_turn, import_shape}
 use Rattle.typst_code.proofs.imports.import_turn.Goals as goal
 
 pub returns-then-is_terminator : goal.returns-then-is_terminator

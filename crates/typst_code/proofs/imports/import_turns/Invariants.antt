@@ -1,8 +1,4 @@
-use Rattle.typst_language.specs.Meaning.{Level}
-use Rattle.typst_language.specs.Bytes.{bytes_left}
-use Rattle.typst_language.specs.View.{Fills}
-use Rattle.typst_language.proofs.Steps.{Turning}
-use Rattle.typst_code.specs.Imports.{import_turn}
+use Rattle.typst_code.proofs.Cited.{Level, bytes_left, Fills, Turning, import_turn}
 use Rattle.typst_code.proofs.imports.import_turns.Given as goal
 
 abbrev pub invariant-turns : goal.invariant-turns

@@ -1,8 +1,5 @@
-use Rattle.typst_kinds.specs.Kinds.{same}
+use Rattle.typst_code.proofs.Cited.{same, does-pick, does-other, found, asks-yes, asks-no, imported}
 use Rattle.typst_kinds.specs.declared.kind.SyntaxKind.TheVariants as kind
-use Rattle.typst_language.proofs.Steps.{does-pick, does-other}
-use Rattle.typst_language.proofs.Asks.{found, asks-yes, asks-no}
-use Rattle.typst_code.specs.Imports.{imported}
 use Rattle.typst_code.proofs.imports.imported.Goals as goal
 
 pub returns-then-eq : goal.returns-then-eq

@@ -1,9 +1,5 @@
-use Rattle.std.proofs.Common.{◌∙◌, ap}
-use Rattle.typst_kinds.specs.Kinds.{same}
+use Rattle.typst_code.proofs.Cited.{◌∙◌, ap, same, becomes, does-next, does-node, module_import}
 use Rattle.typst_kinds.specs.declared.kind.SyntaxKind.TheVariants as kind
-use Rattle.typst_language.specs.Shape.{becomes}
-use Rattle.typst_language.proofs.Steps.{does-next, does-node}
-use Rattle.typst_code.specs.Imports.{module_import}
 use Rattle.typst_code.proofs.imports.module_import.Goals as goal
 
 pub returns : goal.returns

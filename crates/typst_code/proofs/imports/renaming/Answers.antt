@@ -1,8 +1,5 @@
-use Rattle.std.proofs.Common.{◌∙◌, ap}
-use Rattle.typst_kinds.specs.Kinds.{same}
+use Rattle.typst_code.proofs.Cited.{◌∙◌, ap, same, does-next, does-gives, does-pick, does-other, renaming}
 use Rattle.typst_kinds.specs.declared.kind.SyntaxKind.TheVariants as kind
-use Rattle.typst_language.proofs.Steps.{does-next, does-gives, does-pick, does-other}
-use Rattle.typst_code.specs.Imports.{renaming}
 use Rattle.typst_code.proofs.imports.renaming.Goals as goal
 
 pub returns-in_ok-expect_identifier : goal.returns-in_ok-expect_identifier

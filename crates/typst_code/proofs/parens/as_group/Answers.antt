@@ -1,7 +1,4 @@
-use Rattle.std.proofs.Common.{◌∙◌, ap}
-use Rattle.typst_language.proofs.Steps.{does-next, does-gives, does-peek}
-use Rattle.typst_language.proofs.Values.{does-value}
-use Rattle.typst_code.specs.Parens.{as_group, after_group}
+use Rattle.typst_code.proofs.Cited.{◌∙◌, ap, does-next, does-gives, does-peek, does-value, as_group, after_group}
 use Rattle.typst_code.proofs.parens.as_group.Goals as goal
 
 pub returns : goal.returns

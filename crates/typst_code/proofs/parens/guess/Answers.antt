@@ -1,13 +1,6 @@
-use Rattle.std.proofs.Common.{refl, ap, ◌∙◌}
-use Rattle.typst_language.specs.Depth.{is_end}
+use Rattle.typst_code.proofs.Cited.{refl, ap, ◌∙◌, arith, View, does-next, does-gives, does-value, back-changed, back-chosen, back-fits, does-chosen, does-either, goes-back, is_arrow, is_eq, is_end, begins-leaves}
 use Rattle.typst_language.specs.Checkpoint.{saved}
-use Rattle.typst_language.specs.View.{View}
-use Rattle.typst_language.proofs.Steps.{does-next, does-gives}
-use Rattle.typst_language.proofs.Values.{does-value}
 use Rattle.typst_language.proofs.Aside.{back-aside, begun-fits, does-aside}
-use Rattle.typst_language.proofs.Begins.{begins-leaves}
-use Rattle.typst_language.proofs.Either.{back-changed, back-chosen, back-fits, does-chosen, does-either, goes-back}
-use Rattle.typst_code.specs.Parens.{is_arrow, is_eq}
 use Rattle.typst_code.proofs.Firsts.{begins-as_group}
 use Rattle.typst_code.proofs.Guesses.{back-comes}
 use Rattle.typst_code.proofs.parens.guess.Goals as goal
@@ -42,7 +35,4 @@ returns-in_ok-destructuring-in-Eq g c l h b =
     (does-next (rw c.new.ensures at c.in_ok-destructuring-in-Eq.ensures l h) does-gives) c.drop_notes-in-Eq.ensures)
 
 pub returns-in-Nothing : goal.returns-in-Nothing
-returns-in-Nothing g c l h b =
-    let began = c.begin_guess-aside.ensures in
-    does-chosen (ap is_eq c.in-Nothing.is)
-    (does-chosen (ap is_arrow c.in-Nothing.is) (does-aside began.begun began.aside c.checkpoint-place.ensures.saved (c.in_ok-after.ensures l h) c.look_before.ensures))
+returns-in-Nothing g c l h b = grind (arith, does-chosen, does-aside)

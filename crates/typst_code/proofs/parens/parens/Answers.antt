@@ -1,7 +1,5 @@
-use Rattle.typst_language.proofs.Steps.{does-next, does-gives, does-node}
-use Rattle.typst_language.proofs.Values.{does-value}
+use Rattle.typst_code.proofs.Cited.{does-next, does-gives, does-node, does-value, parens}
 use Rattle.typst_bindings.specs.Closures.{closure_shape}
-use Rattle.typst_code.specs.Parens.{parens}
 use Rattle.typst_code.proofs.parens.parens.Goals as goal
 
 pub returns : goal.returns

@@ -1,11 +1,5 @@
-use Rattle.std.proofs.Common.{refl}
-use Rattle.typst_kinds.specs.Kinds.{same}
+use Rattle.typst_code.proofs.Cited.{refl, same, does-next, does-gives, asks-yes, asks-no, is-not, is-so, back-chosen, does-chosen, does-dropped, does-either, readings}
 use Rattle.typst_kinds.specs.declared.kind.SyntaxKind.TheVariants as kind
-use Rattle.typst_language.proofs.Steps.{does-next, does-gives}
-use Rattle.typst_language.proofs.Asks.{asks-yes, asks-no}
-use Rattle.typst_language.proofs.Nots.{is-not, is-so}
-use Rattle.typst_language.proofs.Either.{back-chosen, does-chosen, does-dropped, does-either}
-use Rattle.typst_code.specs.Parens.{readings}
 use Rattle.typst_code.proofs.Guesses.{found-back}
 use Rattle.typst_code.proofs.parens.readings.Goals as goal
 

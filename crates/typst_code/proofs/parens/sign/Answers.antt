@@ -1,7 +1,5 @@
-use Rattle.std.proofs.Common.{◌∙◌, ap}
-use Rattle.typst_kinds.specs.Kinds.{same}
+use Rattle.typst_code.proofs.Cited.{◌∙◌, ap, same, does-gives}
 use Rattle.typst_kinds.specs.declared.kind.SyntaxKind.TheVariants as kind
-use Rattle.typst_language.proofs.Steps.{does-gives}
 use Rattle.typst_code.proofs.parens.sign.Goals as goal
 
 pub returns-in_ok-expects-in-Eq : goal.returns-in_ok-expects-in-Eq

@@ -1,7 +1,5 @@
 use Rattle.typst_kinds.specs.declared.kind.SyntaxKind.TheVariants as kind
-use Rattle.typst_language.specs.Shape.{becomes}
-use Rattle.typst_language.proofs.Steps.{does-node}
-use Rattle.typst_code.specs.Sequences.{code}
+use Rattle.typst_code.proofs.Cited.{becomes, does-node, code}
 use Rattle.typst_code.proofs.sequences.code.Goals as goal
 
 pub returns : goal.returns

@@ -1,9 +1,5 @@
-use Rattle.std.proofs.Common.{◌∙◌, ap}
-use Rattle.typst_kinds.specs.Kinds.{same}
+use Rattle.typst_code.proofs.Cited.{◌∙◌, ap, same, does-next, does-gives, does-shape, does-scoped, loose-knows, rewrapped-loose, encloses, code_block, code_reading}
 use Rattle.typst_kinds.specs.declared.kind.SyntaxKind.TheVariants as kind
-use Rattle.typst_language.proofs.Steps.{does-next, does-gives, does-shape, does-scoped, loose-knows, rewrapped-loose}
-use Rattle.typst_language.specs.Shape.{encloses}
-use Rattle.typst_code.specs.Sequences.{code_block, code_reading}
 use Rattle.typst_code.proofs.sequences.code_block.Goals as goal
 
 pub returns : goal.returns

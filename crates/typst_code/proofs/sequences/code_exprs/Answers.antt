@@ -1,7 +1,5 @@
-use Rattle.std.proofs.Common.{◌==◌, ◌∙◌, ap, sym}
+use Rattle.typst_code.proofs.Cited.{◌==◌, ◌∙◌, ap, sym, code_exprs, does-next, does-pick, does-other, does-deepest}
 use Rattle.std.proofs.lemmas.Bool.{ne_eqb}
-use Rattle.typst_code.specs.Sequences.{code_exprs}
-use Rattle.typst_language.proofs.Steps.{does-next, does-pick, does-other, does-deepest}
 use Rattle.typst_code.proofs.sequences.code_exprs.Goals as goal
 
 pub returns-then-levels-eq0 : goal.returns-then-levels-eq0

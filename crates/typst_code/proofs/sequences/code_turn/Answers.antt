@@ -1,10 +1,5 @@
 use Rattle.typst_language.specs.declared.reading.AtNewline.TheVariants as newline
-use Rattle.typst_language.proofs.Steps.{does-next, does-gives}
-use Rattle.typst_markup.specs.Markup.{at_newline}
-use Rattle.typst_language.proofs.Asks.{asks-yes, asks-no}
-use Rattle.typst_language.proofs.Values.{does-entered}
-use Rattle.typst_code.specs.Sequences.{code_turn}
-use Rattle.typst_code.specs.Stops.{stops_at}
+use Rattle.typst_code.proofs.Cited.{does-next, does-gives, at_newline, asks-yes, asks-no, does-entered, code_turn, stops_at}
 use Rattle.typst_code.proofs.sequences.code_turn.Goals as goal
 
 pub returns-then-has : goal.returns-then-has

@@ -1,9 +1,4 @@
-use Rattle.typst_language.specs.Meaning.{Level}
-use Rattle.typst_language.specs.Bytes.{bytes_left}
-use Rattle.typst_language.specs.View.{Fills}
-use Rattle.typst_language.proofs.Steps.{Turning}
-use Rattle.typst_code.specs.Sequences.{code_turn}
-use Rattle.typst_code.specs.Stops.{stops_at}
+use Rattle.typst_code.proofs.Cited.{Level, bytes_left, Fills, Turning, code_turn, stops_at}
 use Rattle.typst_code.proofs.sequences.code_turns.Given as goal
 
 abbrev pub invariant-turns : goal.invariant-turns

@@ -1,7 +1,4 @@
-use Rattle.typst_language.proofs.Steps.{does-next}
-use Rattle.typst_markup.specs.Starts.{begins_code}
-use Rattle.typst_language.proofs.Asks.{asks-yes, asks-no}
-use Rattle.typst_code.specs.Sequences.{statement}
+use Rattle.typst_code.proofs.Cited.{does-next, asks-yes, asks-no, statement, begins_code}
 use Rattle.typst_code.proofs.sequences.statement.Goals as goal
 
 pub returns-then-not-begins_code : goal.returns-then-not-begins_code

@@ -1,9 +1,5 @@
-use Rattle.typst_kinds.specs.Kinds.{same}
+use Rattle.typst_code.proofs.Cited.{same, does-gives, does-pick, does-other, found, asks-yes, asks-no, statement_end, stops_at}
 use Rattle.typst_kinds.specs.declared.kind.SyntaxKind.TheVariants as kind
-use Rattle.typst_language.proofs.Steps.{does-gives, does-pick, does-other}
-use Rattle.typst_language.proofs.Asks.{found, asks-yes, asks-no}
-use Rattle.typst_code.specs.Sequences.{statement_end}
-use Rattle.typst_code.specs.Stops.{stops_at}
 use Rattle.typst_code.proofs.sequences.statement_end.Goals as goal
 
 pub returns-then-has : goal.returns-then-has

@@ -1,6 +1,5 @@
-use Rattle.std.proofs.Common.{arith}
-use Rattle.typst_language.proofs.Nests.{nests-next, nests-last}
-use Rattle.typst_code.specs.Statements.{conditional}
+use Rattle.std.proofs.lemmas.Grind.{common_steps}
+use Rattle.typst_code.proofs.Cited.{arith, conditional, nests-next, nests-last}
 use Rattle.typst_code.proofs.statements.conditional.Goals as goal
 
 pub returns-then-not-goes_on : goal.returns-then-not-goes_on
@@ -10,7 +9,4 @@ returns-then-not-goes_on g c l h b =
     (nests-last h.sound (c.turns.invariant l h b) c.marker.ensures.few c.marker.ensures.marker (c.in_ok-more.ensures l h b) (λ more. let stuck = c.goes_on.ensures.stops c.if-not-goes_on.true more in omega arith))
 
 pub turns-preserved : goal.turns-preserved
-turns-preserved g c l h b =
-    let goes = c.goes_on.ensures.goes c.if-not-goes_on.false in
-    rw c.in_ok-push.ensures.items
-    (nests-next h.sound (c.turns.invariant l h b) c.marker.ensures.few c.marker.ensures.marker (rw goes.0 at c.in_ok-more.ensures l h b) (omega arith))
+turns-preserved g c l h b = grind (arith, common_steps, nests-next)

@@ -1,11 +1,5 @@
-use Rattle.typst_language.specs.Meaning.{Level}
-use Rattle.typst_language.specs.Bytes.{bytes_left}
-use Rattle.typst_language.specs.View.{Fills}
+use Rattle.typst_code.proofs.Cited.{Level, bytes_left, Fills, becomes, Blocks, conditional_turn, Nests}
 use Rattle.typst_kinds.specs.declared.kind.SyntaxKind.TheVariants as kind
-use Rattle.typst_language.specs.Shape.{becomes}
-use Rattle.typst_language.proofs.Nests.{Nests}
-use Rattle.typst_code.specs.Outside.{Blocks}
-use Rattle.typst_code.specs.Statements.{conditional_turn}
 use Rattle.typst_code.proofs.statements.conditional.Given as goal
 
 abbrev pub invariant-turns : goal.invariant-turns

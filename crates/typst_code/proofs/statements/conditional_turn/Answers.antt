@@ -1,8 +1,5 @@
-use Rattle.std.proofs.Common.{◌∙◌, ap}
-use Rattle.typst_kinds.specs.Kinds.{same}
+use Rattle.typst_code.proofs.Cited.{◌∙◌, ap, same, does-next, does-gives, does-pick, does-other, conditional_turn}
 use Rattle.typst_kinds.specs.declared.kind.SyntaxKind.TheVariants as kind
-use Rattle.typst_language.proofs.Steps.{does-next, does-gives, does-pick, does-other}
-use Rattle.typst_code.specs.Statements.{conditional_turn}
 use Rattle.typst_code.proofs.statements.conditional_turn.Goals as goal
 
 pub returns-then-not-other : goal.returns-then-not-other

@@ -1,5 +1,4 @@
-use Rattle.typst_language.proofs.Steps.{does-next, does-gives}
-use Rattle.typst_code.specs.Statements.{field}
+use Rattle.typst_code.proofs.Cited.{does-next, does-gives, field}
 use Rattle.typst_code.proofs.statements.field.Goals as goal
 
 pub returns-clause-means : goal.returns-clause-means

@@ -1,9 +1,5 @@
-use Rattle.std.proofs.Common.{◌∙◌, ap}
-use Rattle.typst_kinds.specs.Kinds.{same}
+use Rattle.typst_code.proofs.Cited.{◌∙◌, ap, same, becomes, does-next, does-node, for_loop}
 use Rattle.typst_kinds.specs.declared.kind.SyntaxKind.TheVariants as kind
-use Rattle.typst_language.specs.Shape.{becomes}
-use Rattle.typst_language.proofs.Steps.{does-next, does-node}
-use Rattle.typst_code.specs.Statements.{for_loop}
 use Rattle.typst_code.proofs.statements.for_loop.Goals as goal
 
 pub returns : goal.returns

@@ -1,10 +1,5 @@
 use Rattle.typst_kinds.specs.declared.kind.SyntaxKind.TheVariants as kind
-use Rattle.typst_language.specs.Shape.{becomes}
-use Rattle.typst_language.proofs.Steps.{does-next, does-node}
-use Rattle.std.proofs.Common.{◌∙◌, ap}
-use Rattle.typst_language.proofs.Steps.{does-peek}
-use Rattle.typst_markup.specs.Starts.{begins_code}
-use Rattle.typst_code.specs.Statements.{func_return}
+use Rattle.typst_code.proofs.Cited.{becomes, does-next, does-node, ◌∙◌, ap, does-peek, func_return, begins_code}
 use Rattle.typst_code.proofs.statements.func_return.Goals as goal
 
 pub returns : goal.returns

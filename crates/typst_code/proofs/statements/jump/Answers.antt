@@ -1,6 +1,4 @@
-use Rattle.typst_language.specs.Shape.{becomes}
-use Rattle.typst_language.proofs.Steps.{does-node}
-use Rattle.typst_code.specs.Statements.{jump}
+use Rattle.typst_code.proofs.Cited.{becomes, does-node, jump}
 use Rattle.typst_code.proofs.statements.jump.Goals as goal
 
 pub returns : goal.returns

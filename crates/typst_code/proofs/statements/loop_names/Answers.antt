@@ -1,8 +1,5 @@
-use Rattle.typst_kinds.specs.Kinds.{same}
+use Rattle.typst_code.proofs.Cited.{same, does-next, does-gives, asks-yes, asks-no, loop_names}
 use Rattle.typst_kinds.specs.declared.kind.SyntaxKind.TheVariants as kind
-use Rattle.typst_language.proofs.Steps.{does-next, does-gives}
-use Rattle.typst_language.proofs.Asks.{asks-yes, asks-no}
-use Rattle.typst_code.specs.Statements.{loop_names}
 use Rattle.typst_code.proofs.statements.loop_names.Goals as goal
 
 pub returns-in_ok-second_pattern : goal.returns-in_ok-second_pattern

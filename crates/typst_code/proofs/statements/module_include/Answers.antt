@@ -1,7 +1,5 @@
 use Rattle.typst_kinds.specs.declared.kind.SyntaxKind.TheVariants as kind
-use Rattle.typst_language.specs.Shape.{becomes}
-use Rattle.typst_language.proofs.Steps.{does-next, does-node}
-use Rattle.typst_code.specs.Statements.{module_include}
+use Rattle.typst_code.proofs.Cited.{becomes, does-next, does-node, module_include}
 use Rattle.typst_code.proofs.statements.module_include.Goals as goal
 
 pub returns : goal.returns

@@ -1,8 +1,5 @@
-use Rattle.typst_kinds.specs.Kinds.{same}
+use Rattle.typst_code.proofs.Cited.{same, does-next, does-gives, asks-yes, asks-no, other_branch}
 use Rattle.typst_kinds.specs.declared.kind.SyntaxKind.TheVariants as kind
-use Rattle.typst_language.proofs.Steps.{does-next, does-gives}
-use Rattle.typst_language.proofs.Asks.{asks-yes, asks-no}
-use Rattle.typst_code.specs.Statements.{other_branch}
 use Rattle.typst_code.proofs.statements.other_branch.Goals as goal
 
 pub returns-then-eq : goal.returns-then-eq

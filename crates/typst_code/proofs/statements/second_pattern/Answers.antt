@@ -1,6 +1,4 @@
-use Rattle.typst_language.proofs.Steps.{does-next, does-gives}
-use Rattle.typst_language.proofs.Asks.{asks-yes, asks-no}
-use Rattle.typst_code.specs.Statements.{second_pattern, begins_pattern}
+use Rattle.typst_code.proofs.Cited.{does-next, does-gives, asks-yes, asks-no, second_pattern, begins_pattern}
 use Rattle.typst_code.proofs.statements.second_pattern.Goals as goal
 
 pub returns-in_ok-deeper_pattern : goal.returns-in_ok-deeper_pattern

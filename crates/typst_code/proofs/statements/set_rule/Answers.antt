@@ -1,9 +1,5 @@
 use Rattle.typst_kinds.specs.declared.kind.SyntaxKind.TheVariants as kind
-use Rattle.typst_language.specs.Shape.{becomes}
-use Rattle.typst_language.proofs.Steps.{does-next, does-node}
-use Rattle.std.proofs.Common.{◌∙◌, ap}
-use Rattle.typst_kinds.specs.Kinds.{same}
-use Rattle.typst_code.specs.Statements.{set_rule}
+use Rattle.typst_code.proofs.Cited.{becomes, does-next, does-node, ◌∙◌, ap, same, set_rule}
 use Rattle.typst_code.proofs.statements.set_rule.Goals as goal
 
 pub returns : goal.returns

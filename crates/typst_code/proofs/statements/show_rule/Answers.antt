@@ -1,8 +1,5 @@
-use Rattle.std.proofs.Common.{◌∙◌, ap, not}
-use Rattle.typst_kinds.specs.Kinds.{same}
+use Rattle.typst_code.proofs.Cited.{◌∙◌, ap, not, same, does-next, does-gives, does-peek, does-node, show_rule, show_shape}
 use Rattle.typst_kinds.specs.declared.kind.SyntaxKind.TheVariants as kind
-use Rattle.typst_language.proofs.Steps.{does-next, does-gives, does-peek, does-node}
-use Rattle.typst_code.specs.Statements.{show_rule, show_shape}
 use Rattle.typst_code.proofs.statements.show_rule.Goals as goal
 
 pub returns : goal.returns

@@ -1,7 +1,4 @@
-use Rattle.std.proofs.Common.{refl, arith}
-use Rattle.typst_language.proofs.Grows.{grows-init, grows-next, grows-stuck, grows-last}
-use Rattle.typst_language.proofs.Steps.{does-next, does-gives}
-use Rattle.typst_code.specs.Statements.{target}
+use Rattle.typst_code.proofs.Cited.{refl, arith, grows-init, grows-next, grows-stuck, grows-last, does-next, does-gives, target}
 use Rattle.typst_code.proofs.statements.target.Goals as goal
 
 pub turns-init : goal.turns-init

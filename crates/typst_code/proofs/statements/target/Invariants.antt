@@ -1,11 +1,5 @@
-use Rattle.typst_language.specs.Meaning.{Level}
-use Rattle.typst_language.specs.Bytes.{bytes_left}
-use Rattle.typst_language.specs.View.{Fills}
-use Rattle.typst_language.specs.Syntax.{◌>>◌}
-use Rattle.typst_language.specs.Syntax.Parser.{gives}
+use Rattle.typst_code.proofs.Cited.{Level, bytes_left, Fills, Grows, target_turn, ◌>>◌, gives}
 use Rattle.typst_language.specs.Expected.{expect_identifier}
-use Rattle.typst_language.proofs.Grows.{Grows}
-use Rattle.typst_code.specs.Statements.{target_turn}
 use Rattle.typst_code.proofs.statements.target.Given as goal
 
 abbrev pub invariant-turns : goal.invariant-turns

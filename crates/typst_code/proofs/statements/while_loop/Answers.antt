@@ -1,7 +1,5 @@
 use Rattle.typst_kinds.specs.declared.kind.SyntaxKind.TheVariants as kind
-use Rattle.typst_language.specs.Shape.{becomes}
-use Rattle.typst_language.proofs.Steps.{does-next, does-node}
-use Rattle.typst_code.specs.Statements.{while_loop}
+use Rattle.typst_code.proofs.Cited.{becomes, does-next, does-node, while_loop}
 use Rattle.typst_code.proofs.statements.while_loop.Goals as goal
 
 pub returns : goal.returns

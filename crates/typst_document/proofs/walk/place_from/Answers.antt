@@ -1,8 +1,6 @@
-use Rattle.std.proofs.Common.{◌≡◌, ap, subst, ◌∙◌, arith}
-use Rattle.typst_positions.proofs.Places.{position}
+use Rattle.typst_document.proofs.Cited.{◌≡◌, ap, subst, ◌∙◌, arith, position, IsWay}
 use Rattle.typst_document.proofs.Walking.{there-before, there-behind}
 use Rattle.typst_document.proofs.walk.place_from.Goals as goal
-use Rattle.typst_document.specs.Places.{IsWay}
 
 pub returns-in-Some : goal.returns-in-Some
 returns-in-Some c =

@@ -1,9 +1,6 @@
-use Rattle.std.proofs.Common.{rules, ◌≡◌, length, ap, subst, ◌∙◌}
-use Rattle.std.specs.Prelude.{slice_range}
-use Rattle.std.specs.Str.{IsCharBoundary, chars}
+use Rattle.typst_document.proofs.Cited.{rules, ◌≡◌, length, ap, subst, ◌∙◌, slice_range, IsCharBoundary, chars, IsOneLine, IsWay, wide}
 use Rattle.typst_document.proofs.Walking.{way}
 use Rattle.typst_document.proofs.walk.width_between.Goals as goal
-use Rattle.typst_document.specs.Places.{IsOneLine, IsWay, wide}
 
 pub returns : goal.returns
 returns c =

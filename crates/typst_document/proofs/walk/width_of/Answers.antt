@@ -1,11 +1,8 @@
-use Rattle.std.proofs.Common.{length, drop, ap, arith}
+use Rattle.typst_document.proofs.Cited.{length, drop, ap, arith, at_drop_all, length_push, chars, wide}
 use Rattle.std.proofs.lemmas.Iterator.{YieldsList-from_chars}
 use Rattle.std.proofs.lemmas.Iterator.Consumers.{YieldsList-turn, YieldsList-end}
-use Rattle.std.proofs.lemmas.List.{at_drop_all, length_push}
-use Rattle.std.specs.Str.{chars}
 use Rattle.typst_document.proofs.Walking.{wide-more, wide-text}
 use Rattle.typst_document.proofs.walk.width_of.Goals as goal
-use Rattle.typst_document.specs.Places.{wide}
 
 pub loop-c-preserved : goal.loop-c-preserved
 loop-c-preserved c =

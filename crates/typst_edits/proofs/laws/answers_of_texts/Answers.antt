@@ -1,15 +1,7 @@
-use Rattle.std.proofs.Common.{refl, arith, false, [], ◌∷◌}
-use Rattle.std.specs.Prelude.{ℕ, codes}
-use Rattle.typst_lines.specs.Classes.{CharClasses, by_law}
-use Rattle.typst_language.specs.Point.{Trivia, no_newlines}
+use Rattle.typst_edits.proofs.Cited.{refl, arith, false, [], ◌∷◌, CharClasses, by_law, Trivia, no_newlines, Gives, text_with, asked_past, Candidate, part, ℕ, codes}
 use Rattle.typst_edits.specs.AnswerExamples.{first_four, new_four}
-use Rattle.typst_edits.specs.Frame.{Gives}
-use Rattle.typst_edits.specs.Edit.{text_with}
-use Rattle.typst_edits.specs.JointBytes.{asked_past}
-use Rattle.typst_candidates.specs.Candidates.{Candidate}
 use Rattle.typst_edits.specs.Frame.Gives.{of_pieces}
 use Rattle.typst_edits.specs.Frame.Run.{top}
-use Rattle.typst_edits.specs.Answer.IsAnswer.{part}
 use Rattle.typst_edits.proofs.Begins.{begins-all}
 use Rattle.typst_edits.proofs.laws.answers_of_texts.Goals as goal
 use Rattle.typst_edits.proofs.Computing.{computing}

@@ -1,7 +1,4 @@
-use Rattle.std.proofs.Common.{[], codes, refl, arith}
-use Rattle.typst_lines.specs.Classes.{by_law}
-use Rattle.typst_edits.specs.Edit.{text_with}
-use Rattle.typst_edits.specs.JointBytes.{asked_past}
+use Rattle.typst_edits.proofs.Cited.{[], codes, refl, arith, by_law, text_with, asked_past}
 use Rattle.typst_edits.specs.SpliceExamples.{newline}
 use Rattle.typst_edits.proofs.Begins.{begins-all}
 use Rattle.typst_edits.proofs.laws.splices_of_texts.Goals as goal

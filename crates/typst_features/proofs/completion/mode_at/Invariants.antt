@@ -1,7 +1,4 @@
-use Rattle.std.proofs.Common.{ℕ}
-use Rattle.std.specs.Prelude.{Option, None, Some}
-use Rattle.typst_tree.specs.Tree.{nodes}
-use Rattle.typst_names.specs.declared.places.Placed.{Placed}
+use Rattle.typst_features.proofs.Cited.{ℕ, nodes, Placed, Option, None, Some}
 use Rattle.typst_features.proofs.completion.mode_at.Given as goal
 
 -- how many nodes are left

@@ -1,5 +1,4 @@
-use Rattle.std.proofs.Common.{arith}
-use Rattle.std.proofs.lemmas.Str.Pattern.{strip_suffix_char}
+use Rattle.typst_features.proofs.Cited.{arith, strip_suffix_char}
 use Rattle.typst_features.proofs.LabelNames.{stripped_last}
 use Rattle.typst_features.proofs.naming.before_closing.Goals as goal
 

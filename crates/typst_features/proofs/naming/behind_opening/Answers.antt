@@ -1,5 +1,4 @@
-use Rattle.std.proofs.Common.{arith}
-use Rattle.std.proofs.lemmas.Str.Pattern.{strip_prefix_char}
+use Rattle.typst_features.proofs.Cited.{arith, strip_prefix_char}
 use Rattle.typst_features.proofs.LabelNames.{stripped_first}
 use Rattle.typst_features.proofs.naming.behind_opening.Goals as goal
 

@@ -1,8 +1,4 @@
-use Rattle.std.proofs.Common.{rules, filter, ap, ◌∙◌}
-use Rattle.std.specs.Prelude.{map}
-use Rattle.std.proofs.lemmas.Fn.{filter_same}
-use Rattle.typst_features.specs.Labels.{Mentioned, is_label, mentioned}
-use Rattle.typst_features.specs.declared.naming.Mention.{Mention}
+use Rattle.typst_features.proofs.Cited.{rules, filter, ap, ◌∙◌, map, Mentioned, is_label, mentioned, Mention, filter_same}
 use Rattle.typst_features.proofs.MentionsFound.{kept}
 use Rattle.typst_features.proofs.naming.definitions.Goals as goal
 

@@ -1,6 +1,4 @@
-use Rattle.std.proofs.Common.{◌≡◌}
-use Rattle.typst_tree.specs.Tree.{none, more, nodes}
-use Rattle.typst_features.specs.Labels.{holding, mentions, row}
+use Rattle.typst_features.proofs.Cited.{◌≡◌, none, more, nodes, holding, mentions, row}
 use Rattle.typst_features.proofs.naming.mention_holding.Given as goal
 
 abbrev pub decreases-loop-kid : goal.decreases-loop-kid

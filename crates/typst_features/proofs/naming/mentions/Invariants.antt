@@ -1,6 +1,4 @@
-use Rattle.std.proofs.Common.{◌≡◌, ◌++◌}
-use Rattle.std.specs.Prelude.{map}
-use Rattle.typst_features.specs.LabelRows.{left_all, steps_all}
+use Rattle.typst_features.proofs.Cited.{◌≡◌, ◌++◌, map, left_all, steps_all}
 use Rattle.typst_features.specs.Labels as spec
 use Rattle.typst_features.proofs.naming.mentions.Given as goal
 

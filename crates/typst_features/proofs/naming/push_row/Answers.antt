@@ -1,14 +1,6 @@
-use Rattle.std.proofs.Common.{◌≡◌, ◌∙◌, [], length, ap, sym, refl, arith}
-use Rattle.std.proofs.lemmas.Bool.Decides.{nat_tests}
-use Rattle.typst_features.specs.LabelRows.{left, left_all, steps_all}
-use Rattle.typst_features.proofs.MentionsFound.{left_pushed, none_left, steps_pushed}
+use Rattle.typst_features.proofs.Cited.{◌∙◌, ap, arith, left_all, steps_all}
+use Rattle.typst_features.proofs.MentionsFound.{left_pushed, steps_pushed}
 use Rattle.typst_features.proofs.naming.push_row.Goals as goal
-
-pub returns-then-is_empty-clause-left : goal.returns-then-is_empty-clause-left
-returns-then-is_empty-clause-left c =
-    let passed : length c.args.row.trees.now ≡ 0 = grind (arith, nat_tests, c.is_empty.ensures, c.if-is_empty.true) in
-    let nothing : left c.args.row ≡ [] = none_left c.args.row passed in
-    rw nothing refl
 
 pub returns-clause-left : goal.returns-clause-left
 returns-clause-left c = ap left_all c.in_ok-push.ensures.items ∙ left_pushed c.args.rows.now.items c.args.row

@@ -1,6 +1,4 @@
-use Rattle.std.proofs.Common.{◌≡◌, ◌++◌, drop}
-use Rattle.std.specs.Prelude.{map}
-use Rattle.typst_features.specs.Renames.{put, put_for}
+use Rattle.typst_features.proofs.Cited.{◌≡◌, ◌++◌, drop, map, put, put_for}
 use Rattle.typst_features.proofs.renaming.add_all.Given as goal
 
 abbrev pub invariant-loop-occurrence : goal.invariant-loop-occurrence

@@ -1,7 +1,4 @@
-use Rattle.std.proofs.Common.{◌≡◌, ◌++◌, drop}
-use Rattle.std.specs.Prelude.{map}
-use Rattle.typst_features.specs.Labels.{mentioned}
-use Rattle.typst_features.specs.Renames.{occurrence}
+use Rattle.typst_features.proofs.Cited.{◌≡◌, ◌++◌, drop, map, mentioned, occurrence}
 use Rattle.typst_features.proofs.renaming.add_mentions.Given as goal
 
 abbrev pub invariant-loop-mention : goal.invariant-loop-mention

@@ -1,7 +1,4 @@
-use Rattle.std.proofs.Common.{◌≡◌, [], ◌++◌, Some, ◌∙◌}
-use Rattle.std.specs.Prelude.{map}
-use Rattle.typst_features.specs.Labels.{mentioned, mentions, name_range, of_name}
-use Rattle.typst_features.specs.Renames.{occurrence}
+use Rattle.typst_features.proofs.Cited.{◌≡◌, [], ◌++◌, Some, ◌∙◌, map, mentioned, mentions, name_range, of_name, occurrence}
 use Rattle.typst_features.proofs.NamedThere.{occurred}
 use Rattle.typst_features.proofs.renaming.label_named.Goals as goal
 

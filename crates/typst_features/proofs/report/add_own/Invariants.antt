@@ -1,7 +1,4 @@
-use Rattle.std.proofs.Common.{◌≡◌, ◌++◌, drop, length}
-use Rattle.std.specs.Prelude.{map}
-use Rattle.typst_tree.specs.Tree.{text_of}
-use Rattle.typst_features.specs.Problems.{reported, own}
+use Rattle.typst_features.proofs.Cited.{◌≡◌, ◌++◌, drop, length, map, text_of, reported, own}
 use Rattle.typst_features.proofs.report.add_own.Given as goal
 
 abbrev pub invariant-loop-diagnostic : goal.invariant-loop-diagnostic

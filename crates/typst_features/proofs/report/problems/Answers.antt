@@ -1,5 +1,4 @@
-use Rattle.std.proofs.Common.{◌∙◌}
-use Rattle.typst_tree.specs.Preorder.{walk}
+use Rattle.typst_features.proofs.Cited.{◌∙◌, walk}
 use Rattle.typst_features.proofs.VisitedProblems.{of_walk, of_diagnosed}
 use Rattle.typst_features.proofs.report.problems.Goals as goal
 

@@ -1,9 +1,5 @@
-use Rattle.std.proofs.Common.{◌≡◌, ◌++◌, length}
-use Rattle.std.specs.List.{flat_map}
-use Rattle.std.specs.Prelude.{map}
-use Rattle.typst_tree.specs.Preorder.{diagnosed}
+use Rattle.typst_features.proofs.Cited.{◌≡◌, ◌++◌, length, map, diagnosed, reported, node, flat_map}
 use Rattle.typst_features.proofs.VisitedProblems.{own_of}
-use Rattle.typst_features.specs.Problems.{reported, node}
 use Rattle.typst_features.proofs.report.problems.Given as goal
 
 abbrev pub invariant-loop-walk : goal.invariant-loop-walk

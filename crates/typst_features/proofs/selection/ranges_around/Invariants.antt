@@ -1,9 +1,4 @@
-use Rattle.std.proofs.Common.{◌≡◌, ◌++◌, ℕ}
-use Rattle.std.specs.Prelude.{Option, None, Some}
-use Rattle.typst_tree.specs.Tree.{none, more, nodes}
-use Rattle.typst_names.specs.Selections.{around, different}
-use Rattle.typst_names.specs.Around.{around_it, HoldsIt}
-use Rattle.typst_names.specs.declared.places.Placed.{Placed}
+use Rattle.typst_features.proofs.Cited.{◌≡◌, ◌++◌, ℕ, none, more, nodes, around_it, HoldsIt, Placed, around, different, Option, None, Some}
 use Rattle.typst_features.proofs.selection.ranges_around.Given as goal
 
 -- how many nodes are left

@@ -1,6 +1,5 @@
-use Rattle.std.proofs.Common.{◌≡◌, ◌++◌}
+use Rattle.typst_fixes.proofs.Cited.{◌≡◌, ◌++◌, left_all, steps_all}
 use Rattle.typst_fixes.specs.Fixes as spec
-use Rattle.typst_fixes.specs.FixRows.{left_all, steps_all}
 use Rattle.typst_fixes.proofs.fixes.quick_fixes.Given as goal
 
 abbrev pub invariant-loop-row : goal.invariant-loop-row

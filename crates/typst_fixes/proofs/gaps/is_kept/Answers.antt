@@ -1,8 +1,4 @@
-use Rattle.std.proofs.Common.{rules, ◌≡◌, ◌-◌, ◌||◌, Bool, false, Option, Some, ap, sym, ◌∙◌, arith}
-use Rattle.std.specs.List.{list_any}
-use Rattle.std.specs.Prelude.{option_map}
-use Rattle.typst_names.specs.Around.{standing}
-use Rattle.typst_fixes.specs.Gaps.{is_kept, keeps, within}
+use Rattle.typst_fixes.proofs.Cited.{rules, ◌≡◌, ◌-◌, ◌||◌, Bool, false, Some, ap, sym, ◌∙◌, arith, list_any, option_map, standing, is_kept, keeps, within}
 use Rattle.typst_fixes.proofs.WayToByte.{goes_on, way}
 use Rattle.typst_fixes.proofs.gaps.is_kept.Goals as goal
 
@@ -10,9 +6,8 @@ pub loop-within-init : goal.loop-within-init
 loop-within-init c =
     let n = standing c.args.node in
     let k = keeps c.args.closer.now c.args.byte in
-    let last = c.saturating_sub-last.result in
-    let is : last ≡ c.args.byte - 1 = omega (arith, c.saturating_sub-last.ensures) in
-    ap (list_any k) (goes_on last n (option_map standing c.child_at-within.result) c.child_at-within.ensures.kid)
+    let is : c.saturating_sub-last.result ≡ c.args.byte - 1 = omega (arith, c.saturating_sub-last.ensures) in
+    ap (list_any k) (goes_on _ n (option_map standing c.child_at-within.result) c.child_at-within.ensures.kid)
     ∙ ap (λ b. list_any k (within b n)) is
 
 pub loop-within-preserved : goal.loop-within-preserved

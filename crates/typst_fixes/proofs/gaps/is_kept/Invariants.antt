@@ -1,9 +1,4 @@
-use Rattle.std.proofs.Common.{◌≡◌, ℕ, Option, None, Some}
-use Rattle.std.specs.List.{list_any}
-use Rattle.std.specs.Prelude.{option_map}
-use Rattle.typst_tree.specs.Tree.{nodes}
-use Rattle.typst_names.specs.Around.{standing}
-use Rattle.typst_names.specs.declared.places.Placed.{Placed}
+use Rattle.typst_fixes.proofs.Cited.{◌≡◌, ℕ, Option, None, Some, list_any, option_map, nodes, standing, Placed}
 use Rattle.typst_fixes.specs.Gaps as spec
 use Rattle.typst_fixes.proofs.WayToByte.{way}
 use Rattle.typst_fixes.proofs.gaps.is_kept.Given as goal

@@ -1,7 +1,5 @@
-use Rattle.std.proofs.Common.{rules, ◌≡◌, ap, sym, ◌∙◌}
+use Rattle.typst_fixes.proofs.Cited.{rules, ◌≡◌, ap, sym, ◌∙◌, trees, ends_with_value}
 use Rattle.typst_kinds.specs.declared.kind.SyntaxKind.TheVariants as node
-use Rattle.typst_tree.specs.Tree.{trees}
-use Rattle.typst_fixes.specs.Wrapped.{ends_with_value}
 use Rattle.typst_fixes.proofs.WayToByte.{children}
 use Rattle.typst_fixes.proofs.wrapping.ends_with_value.Goals as goal
 

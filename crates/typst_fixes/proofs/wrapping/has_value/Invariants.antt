@@ -1,5 +1,4 @@
-use Rattle.std.proofs.Common.{◌≡◌, drop}
-use Rattle.std.specs.List.{list_any}
+use Rattle.typst_fixes.proofs.Cited.{◌≡◌, drop, list_any}
 use Rattle.typst_fixes.specs.Wrapped as spec
 use Rattle.typst_fixes.proofs.wrapping.has_value.Given as goal
 

@@ -1,5 +1,4 @@
-use Rattle.std.proofs.Common.{◌≡◌, length}
-use Rattle.typst_tree.specs.Tree.{forest}
+use Rattle.typst_fixes.proofs.Cited.{◌≡◌, length, forest}
 use Rattle.typst_fixes.specs.Wrapped as spec
 use Rattle.typst_fixes.proofs.wrapping.label_after.Given as goal
 

@@ -1,10 +1,5 @@
-use Rattle.std.proofs.Common.{rules, ◌≡◌, Bool, false, Option, Some, ap, sym, ◌∙◌, if◌then◌else◌}
-use Rattle.std.specs.Prelude.{option_map}
-use Rattle.typst_kinds.specs.Kinds.{same}
+use Rattle.typst_fixes.proofs.Cited.{rules, ◌≡◌, Bool, false, Option, Some, ap, sym, ◌∙◌, if◌then◌else◌, option_map, same, standing, end_of, kind_of, within, first_label, label_of}
 use Rattle.typst_kinds.specs.declared.kind.SyntaxKind.TheVariants as node
-use Rattle.typst_names.specs.Around.{standing}
-use Rattle.typst_fixes.specs.Gaps.{end_of, kind_of, within}
-use Rattle.typst_fixes.specs.Wrapped.{first_label, label_of}
 use Rattle.typst_fixes.proofs.WayToByte.{goes_on, way}
 use Rattle.typst_fixes.proofs.wrapping.label_of.Goals as goal
 

@@ -1,8 +1,4 @@
-use Rattle.std.proofs.Common.{◌≡◌, ℕ, Option, None, Some}
-use Rattle.std.specs.Prelude.{option_map}
-use Rattle.typst_tree.specs.Tree.{nodes}
-use Rattle.typst_names.specs.Around.{standing}
-use Rattle.typst_names.specs.declared.places.Placed.{Placed}
+use Rattle.typst_fixes.proofs.Cited.{◌≡◌, ℕ, Option, None, Some, option_map, nodes, standing, Placed}
 use Rattle.typst_fixes.specs.Wrapped as spec
 use Rattle.typst_fixes.proofs.WayToByte.{way}
 use Rattle.typst_fixes.proofs.wrapping.label_of.Given as goal

@@ -1,8 +1,4 @@
-use Rattle.std.proofs.Common.{rules, ◌≡◌, true, false, Option, Some, ap, sym, ◌∙◌}
-use Rattle.std.specs.Prelude.{option_map}
-use Rattle.typst_names.specs.Around.{standing}
-use Rattle.typst_fixes.specs.Gaps.{within}
-use Rattle.typst_fixes.specs.Wrapped.{first_whole, is_whole, last_value}
+use Rattle.typst_fixes.proofs.Cited.{rules, ◌≡◌, true, false, Option, Some, ap, sym, ◌∙◌, option_map, standing, within, first_whole, is_whole, last_value}
 use Rattle.typst_fixes.proofs.WayToByte.{goes_on, way}
 use Rattle.typst_fixes.proofs.WholeCode.{within_it}
 use Rattle.typst_fixes.proofs.wrapping.last_value.Goals as goal

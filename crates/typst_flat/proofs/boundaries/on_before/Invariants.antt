@@ -1,5 +1,4 @@
-use Rattle.std.proofs.Common.{◌-◌, ◌<◌}
-use Rattle.typst_tree.specs.Boundaries.{IsBoundary}
+use Rattle.typst_flat.proofs.Cited.{◌-◌, ◌<◌, IsBoundary}
 use Rattle.typst_flat.proofs.boundaries.on_before.Given as goal
 
 abbrev pub decreases-on : goal.decreases-on

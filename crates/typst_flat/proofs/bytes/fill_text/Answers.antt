@@ -1,5 +1,4 @@
-use Rattle.std.proofs.Common.{[], ap, ◌∙◌, refl}
-use Rattle.typst_flat.specs.Records.{filled}
+use Rattle.typst_flat.proofs.Cited.{[], ap, ◌∙◌, refl, filled}
 use Rattle.typst_flat.proofs.bytes.fill_text.Goals as goal
 
 pub returns-clause-room : goal.returns-clause-room

@@ -1,6 +1,4 @@
-use Rattle.std.proofs.Common.{◌≡◌, ℕ, ◌++◌, List, length, take}
-use Rattle.typst_tree.specs.Tree.{saturated}
-use Rattle.typst_flat.specs.Records.{filled}
+use Rattle.typst_flat.proofs.Cited.{◌≡◌, ℕ, ◌++◌, List, length, take, saturated, filled}
 use Rattle.typst_flat.proofs.bytes.put.Given as goal
 
 abbrev pub invariant-loop-i : goal.invariant-loop-i

@@ -1,6 +1,4 @@
-use Rattle.std.proofs.Common.{◌-◌}
-use Rattle.typst_tree.specs.Tree.{nodes}
-use Rattle.typst_flat.specs.Placed.{IsFilled, Stays, course}
+use Rattle.typst_flat.proofs.Cited.{◌-◌, nodes, IsFilled, Stays, course}
 use Rattle.typst_flat.proofs.fill.fill_met.Given as goal
 
 abbrev pub invariant-nodes : goal.invariant-nodes

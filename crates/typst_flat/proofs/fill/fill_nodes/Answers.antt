@@ -1,5 +1,4 @@
-use Rattle.std.proofs.Common.{◌-◌, ◌^◌, ap, length, ◌∙◌, refl}
-use Rattle.typst_flat.specs.Records.{filled}
+use Rattle.typst_flat.proofs.Cited.{◌-◌, ◌^◌, ap, length, ◌∙◌, refl, filled}
 use Rattle.typst_flat.proofs.Whole.{whole, length_records}
 use Rattle.typst_flat.proofs.fill.fill_nodes.Goals as goal
 

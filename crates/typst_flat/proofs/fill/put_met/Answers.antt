@@ -1,6 +1,4 @@
-use Rattle.std.proofs.Common.{◌+◌, ◌<◌, ◌≤◌, sym, subst, arith}
-use Rattle.typst_tree.specs.Steps.{at, offset_of, end_of}
-use Rattle.typst_flat.specs.Placed.{IsFilled}
+use Rattle.typst_flat.proofs.Cited.{◌+◌, ◌<◌, ◌≤◌, sym, subst, arith, at, offset_of, end_of, IsFilled}
 use Rattle.typst_flat.proofs.Filled.{put_fits, put_full, put_past}
 use Rattle.typst_flat.proofs.fill.put_met.Goals as goal
 use Rattle.typst_flat.proofs.fill.put_met.Goals.{then-count-room, else-count-room}

@@ -1,8 +1,5 @@
-use Rattle.std.proofs.Common.{◌≡◌, ◌-◌, Some, ap, sym, subst, ◌∙◌, arith, slice_get}
+use Rattle.typst_flat.proofs.Cited.{◌≡◌, ◌-◌, Some, ap, sym, subst, ◌∙◌, arith, slice_get, tag_code, all_tags, got}
 use Rattle.std.specs.Slice.{IsItemAt}
-use Rattle.typst_highlight.specs.Tags.{all_tags}
-use Rattle.typst_flat.specs.Codes.{tag_code}
-use Rattle.typst_kinds.proofs.Places.{got}
 use Rattle.typst_flat.proofs.Numbered.{tag_here, tag_there}
 use Rattle.typst_flat.proofs.kinds.tag_of_code.Goals as goal
 

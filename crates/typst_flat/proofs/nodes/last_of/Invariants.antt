@@ -1,5 +1,4 @@
-use Rattle.std.proofs.Common.{◌≡◌, ◌++◌, List}
-use Rattle.typst_tree.specs.Tree.{Tree, nodes, places}
+use Rattle.typst_flat.proofs.Cited.{◌≡◌, ◌++◌, List, Tree, nodes, places}
 use Rattle.typst_flat.proofs.nodes.last_of.Given as goal
 
 abbrev pub invariant-levels : goal.invariant-levels

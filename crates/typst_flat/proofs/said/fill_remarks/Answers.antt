@@ -1,22 +1,10 @@
-use Rattle.std.proofs.Common.{◌≡◌, ◌++◌, ◌∷◌, [], Some, List, ap, sym, subst, ◌∙◌, refl, append_assoc, append-nil}
-use Rattle.std.specs.List.{flat_map}
-use Rattle.std.proofs.lemmas.List.Concat.{flat_map-append}
-use Rattle.typst_tree.specs.Linked.{linked}
-use Rattle.typst_tree.specs.Steps.{At}
-use Rattle.typst_flat.specs.Said.{IsWritten, said_of}
-use Rattle.typst_flat.specs.Walk.{Comes, ahead}
+use Rattle.typst_flat.proofs.Cited.{◌≡◌, ◌++◌, ◌∷◌, [], Some, List, ap, sym, subst, ◌∙◌, append_assoc, append-nil, arith, flat_map, flat_map-append, linked, At, IsWritten, said_of, Comes, ahead}
 use Rattle.typst_flat.proofs.Sayings.{none_written}
 use Rattle.typst_flat.proofs.Whole.{all_first}
 use Rattle.typst_flat.proofs.said.fill_remarks.Goals as goal
 
 pub nodes-init : goal.nodes-init
-nodes-init c =
-    let w = c.new-walk.result in
-    record {
-      root = c.new-walk.ensures.root;
-      ready = c.new-walk.ensures.ready;
-      written = ([], (all_first w.stretch w.root.now c.args.root.now w.number (ap (λ s. s.start) c.new-walk.ensures.stretch) (ap (λ s. s.end) c.new-walk.ensures.stretch) c.new-walk.ensures.root c.new-walk.ensures.number, none_written _ _ _ refl refl));
-    }
+nodes-init c = grind (arith, all_first, none_written)
 
 pub nodes-preserved : goal.nodes-preserved
 nodes-preserved c =

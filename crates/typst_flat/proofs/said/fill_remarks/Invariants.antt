@@ -1,8 +1,4 @@
-use Rattle.std.proofs.Common.{◌≡◌, ◌++◌, List, length}
-use Rattle.std.specs.List.{flat_map}
-use Rattle.typst_tree.specs.Steps.{At}
-use Rattle.typst_flat.specs.Records.{all_of}
-use Rattle.typst_flat.specs.Said.{IsWritten, said_of}
+use Rattle.typst_flat.proofs.Cited.{◌≡◌, ◌++◌, List, length, flat_map, At, all_of, IsWritten, said_of}
 use Rattle.typst_flat.specs.Walk.{Stays, ahead}
 use Rattle.typst_flat.proofs.said.fill_remarks.Given as goal
 

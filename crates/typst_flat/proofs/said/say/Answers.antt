@@ -1,6 +1,4 @@
-use Rattle.std.proofs.Common.{◌≡◌, ◌++◌, ◌∷◌, [], ap, ◌∙◌, arith}
-use Rattle.typst_flat.specs.Records.{filled}
-use Rattle.typst_flat.specs.Said.{Saying, remarks_from}
+use Rattle.typst_flat.proofs.Cited.{◌≡◌, ◌++◌, ◌∷◌, [], ap, ◌∙◌, arith, filled, Saying, remarks_from}
 use Rattle.typst_flat.proofs.Sayings.{one_more, remark_fits, remark_full}
 use Rattle.typst_flat.proofs.said.say.Goals as goal
 use Rattle.typst_flat.proofs.said.say.Goals.{then-said-remarks, else-said-remarks}

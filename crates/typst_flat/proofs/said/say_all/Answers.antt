@@ -1,13 +1,4 @@
-use Rattle.std.proofs.Common.{◌≡◌, ◌+◌, ◌<◌, ◌≤◌, ◌∷◌, ◌++◌, [], List, length, take, ap, sym, subst, ◌∙◌, arith, append_assoc, append-nil}
-use Rattle.std.specs.List.{flat_map}
-use Rattle.std.proofs.lemmas.List.{take_more}
-use Rattle.std.proofs.lemmas.List.Concat.{flat_map-append}
-use Rattle.typst_kinds.specs.Diagnostic.{Diagnostic}
-use Rattle.typst_tree.specs.Tree.{Tree}
-use Rattle.typst_tree.specs.Linked.{linked}
-use Rattle.typst_tree.specs.Steps.{At}
-use Rattle.typst_flat.specs.Said.{IsWritten, Saying, said_by}
-use Rattle.std.proofs.lemmas.List.{take_all}
+use Rattle.typst_flat.proofs.Cited.{◌≡◌, ◌+◌, ◌<◌, ◌≤◌, ◌∷◌, ◌++◌, [], List, length, take, ap, sym, subst, ◌∙◌, arith, append_assoc, append-nil, flat_map, take_more, flat_map-append, Tree, linked, At, IsWritten, Saying, said_by, take_all, Diagnostic}
 use Rattle.typst_flat.proofs.said.say_all.Goals as goal
 
 pub loop-diagnostic-preserved : goal.loop-diagnostic-preserved

@@ -1,8 +1,4 @@
-use Rattle.std.proofs.Common.{ℕ, ◌++◌, List, take}
-use Rattle.std.specs.List.{flat_map}
-use Rattle.typst_tree.specs.Linked.{linked}
-use Rattle.typst_flat.specs.Said.{IsWritten, Saying, said_by}
-use Rattle.typst_flat.specs.declared.records.Remark.{Remark}
+use Rattle.typst_flat.proofs.Cited.{ℕ, ◌++◌, List, take, flat_map, linked, IsWritten, Saying, said_by, Remark}
 use Rattle.typst_flat.proofs.said.say_all.Given as goal
 
 abbrev pub invariant-loop-diagnostic : goal.invariant-loop-diagnostic

@@ -1,10 +1,4 @@
-use Rattle.std.proofs.Common.{◌+◌, ◌<◌, ◌≤◌, ◌∷◌, ◌++◌, [], List, length, map, take, ap, sym, subst, ◌∙◌, arith}
-use Rattle.std.proofs.lemmas.List.{map-append, take_more}
-use Rattle.typst_kinds.specs.Diagnostic.{Hint}
-use Rattle.typst_tree.specs.Linked.{linked}
-use Rattle.typst_tree.specs.Steps.{At}
-use Rattle.typst_flat.specs.Said.{IsWritten, Saying, diagnostic_of, end_in, hint_of, severity_code, start_in}
-use Rattle.std.proofs.lemmas.List.{take_all}
+use Rattle.typst_flat.proofs.Cited.{◌+◌, ◌<◌, ◌≤◌, ◌∷◌, ◌++◌, [], List, length, map, take, ap, sym, subst, ◌∙◌, arith, map-append, take_more, linked, At, IsWritten, Saying, diagnostic_of, end_in, hint_of, severity_code, start_in, take_all, Hint}
 use Rattle.typst_flat.proofs.Sayings.{longer}
 use Rattle.typst_flat.proofs.said.say_one.Goals as goal
 

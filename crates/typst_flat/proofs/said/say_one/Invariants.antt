@@ -1,7 +1,4 @@
-use Rattle.std.proofs.Common.{ℕ, ◌∷◌, ◌++◌, List, map, take}
-use Rattle.typst_tree.specs.Linked.{linked}
-use Rattle.typst_flat.specs.Said.{IsWritten, Saying, diagnostic_of, hint_of}
-use Rattle.typst_flat.specs.declared.records.Remark.{Remark}
+use Rattle.typst_flat.proofs.Cited.{ℕ, ◌∷◌, ◌++◌, List, map, take, linked, IsWritten, Saying, diagnostic_of, hint_of, Remark}
 use Rattle.typst_flat.proofs.said.say_one.Given as goal
 
 abbrev pub invariant-loop-hint : goal.invariant-loop-hint

@@ -1,11 +1,6 @@
-use Rattle.std.proofs.Common.{◌≡◌, ◌∙◌, true, false, ap, subst, sym}
-use Rattle.std.proofs.lemmas.Str.{encodes-chars}
-use Rattle.std.specs.Str.{chars}
+use Rattle.typst_grammar.proofs.Cited.{◌≡◌, ◌∙◌, true, false, ap, subst, sym, encodes-chars, chars, Tree, forest, inner_of, text_of, tree, binds, has_errors}
 use Rattle.typst_kinds.specs.declared.kind.SyntaxKind.TheVariants as kind
-use Rattle.typst_tree.specs.Tree.{Tree, forest, inner_of, text_of}
-use Rattle.typst_grammar.specs.Grammar.{tree}
 use Rattle.typst_grammar.proofs.Whole.{leaves}
-use Rattle.typst_grammar.specs.Binding.{binds, has_errors}
 use Rattle.typst_grammar.proofs.Knot.{binding-markup}
 use Rattle.typst_grammar.proofs.entry.parse.Goals as goal
 

@@ -1,15 +1,8 @@
-use Rattle.std.proofs.Common.{◌≡◌, ◌∙◌, true, false, ap, subst, sym, List, Some}
+use Rattle.typst_grammar.proofs.Cited.{◌≡◌, ◌∙◌, true, false, ap, subst, sym, List, Some, Log, encodes-chars, chars, Tree, forest, inner_of, text_of, tree, binds, has_errors, Note}
 use Rattle.typst_tokens.specs.declared.hull.Hull.{Hull}
-use Rattle.typst_language.specs.declared.calls.Note.{Note}
-use Rattle.typst_language.specs.Log.{Log}
-use Rattle.std.proofs.lemmas.Str.{encodes-chars}
-use Rattle.std.specs.Str.{chars}
 use Rattle.typst_kinds.specs.declared.kind.SyntaxKind.TheVariants as kind
-use Rattle.typst_tree.specs.Tree.{Tree, forest, inner_of, text_of}
-use Rattle.typst_grammar.specs.Grammar.{tree}
 use Rattle.typst_grammar.proofs.AtLevels.{noted-log}
 use Rattle.typst_grammar.proofs.Whole.{leaves}
-use Rattle.typst_grammar.specs.Binding.{binds, has_errors}
 use Rattle.typst_grammar.proofs.Knot.{binding-markup}
 use Rattle.typst_grammar.proofs.entry.parse_noted.Goals as goal
 

@@ -1,7 +1,4 @@
-use Rattle.std.proofs.Common.{◌≡◌, ◌-◌, ℕ, suc, refl, subst, arith}
-use Rattle.typst_language.specs.Calls.Call.{MarkupExpr, CodeExpr, MathExpr, Pattern}
-use Rattle.typst_language.specs.View.{Makes}
-use Rattle.typst_grammar.specs.Guessing.{guessing_at}
+use Rattle.typst_grammar.proofs.Cited.{◌≡◌, ◌-◌, ℕ, suc, refl, subst, arith, MarkupExpr, CodeExpr, MathExpr, Pattern, Makes, guessing_at}
 use Rattle.typst_grammar.proofs.AtLevels.{blocks-at, calls-at, fills-level, makes-production}
 use Rattle.typst_grammar.proofs.grammar.+knot.Goals as goal
 
@@ -26,7 +23,6 @@ call_math_expr-returns g t c =
     let k = g.C.Classes.classes c.args.classes.now in
     let n = c.args.levels - 1 in
     let e : suc n ≡ c.args.levels = omega arith in
-    let b = blocks-at k n in
     subst (λ (d : ℕ). Makes (guessing_at k d) (MathExpr c.args.least c.args.signs) tt c.args.p.now c.math_expr.new.p) e (makes-production k n (c.in_ok-math_expr.ensures (guessing_at k n) (fills-level k n refl refl (λ old new x y r q. calls-at (guessing_at k n) (MarkupExpr x y) r q.2 q.3 q.4) (λ old new x y r q. calls-at (guessing_at k n) (CodeExpr x y) r q.2 q.3 q.4) (λ old new x y r q. calls-at (guessing_at k n) (MathExpr x y) r q.2 q.3 q.4.1) (λ old new x y r q. calls-at (guessing_at k n) (Pattern x y) r q.2 q.3 q.4.2))))
 
 pub call_pattern-returns : goal.call_pattern-returns
@@ -34,5 +30,4 @@ call_pattern-returns g t c =
     let k = g.C.Classes.classes c.args.classes.now in
     let n = c.args.levels - 1 in
     let e : suc n ≡ c.args.levels = omega arith in
-    let b = blocks-at k n in
     subst (λ (d : ℕ). Makes (guessing_at k d) (Pattern c.args.role c.args.names) c.in_ok-pattern.field-0 c.args.p.now c.pattern.new.p) e (makes-production k n (c.in_ok-pattern.ensures (guessing_at k n) (fills-level k n refl refl (λ old new x y r q. calls-at (guessing_at k n) (MarkupExpr x y) r q.2 q.3 q.4) (λ old new x y r q. calls-at (guessing_at k n) (CodeExpr x y) r q.2 q.3 q.4) (λ old new x y r q. calls-at (guessing_at k n) (MathExpr x y) r q.2 q.3 q.4.1) (λ old new x y r q. calls-at (guessing_at k n) (Pattern x y) r q.2 q.3 q.4.2))))

@@ -1,5 +1,4 @@
-use Rattle.typst_language.proofs.Steps.{does-next, does-look}
-use Rattle.typst_grammar.specs.Grammar.{whole, whole_code, whole_math}
+use Rattle.typst_grammar.proofs.Cited.{does-next, does-look, whole, whole_code, whole_math}
 use Rattle.typst_grammar.proofs.grammar.read_all.Goals as goal
 
 pub returns-in_ok-flush_trivia-in-Markup : goal.returns-in_ok-flush_trivia-in-Markup

@@ -1,7 +1,4 @@
-use Rattle.std.proofs.Common.{refl}
-use Rattle.typst_language.specs.Calls.Call.{MarkupExpr, CodeExpr, MathExpr, Pattern}
-use Rattle.typst_grammar.specs.Guessing.{guessing_at}
-use Rattle.typst_grammar.specs.Grammar.{max_depth}
+use Rattle.typst_grammar.proofs.Cited.{refl, MarkupExpr, CodeExpr, MathExpr, Pattern, guessing_at, max_depth}
 use Rattle.typst_grammar.proofs.AtLevels.{calls-at, fills-level, parsed-in}
 use Rattle.typst_grammar.proofs.grammar.read_whole.Goals as goal
 

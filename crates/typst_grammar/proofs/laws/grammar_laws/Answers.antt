@@ -1,5 +1,4 @@
-use Rattle.typst_language.proofs.Knot.{lawful-parser, lawful-call}
-use Rattle.typst_code.specs.Markup.{markup_turn, markup_exprs, markup_run}
+use Rattle.typst_grammar.proofs.Cited.{lawful-parser, lawful-call, markup_turn, markup_exprs, markup_run}
 use Rattle.typst_grammar.specs.Grammar.{rules}
 use Rattle.typst_grammar.proofs.InRuns.{lawful-block, lawful-in}
 use Rattle.typst_grammar.proofs.laws.grammar_laws.Goals as goal

@@ -1,7 +1,4 @@
-use Rattle.typst_language.proofs.Knot.{lawful-parser}
-use Rattle.typst_code.specs.Params.{params}
-use Rattle.typst_code.specs.Parens.{after_paren, as_group, readings}
-use Rattle.typst_code.specs.Patterns.{destructuring}
+use Rattle.typst_grammar.proofs.Cited.{lawful-parser, params, after_paren, as_group, readings, destructuring}
 use Rattle.typst_grammar.specs.Grammar.{rules}
 use Rattle.typst_grammar.proofs.laws.reading_laws.Goals as goal
 

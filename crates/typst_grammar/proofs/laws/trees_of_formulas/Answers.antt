@@ -1,18 +1,6 @@
-use Rattle.std.proofs.Common.{refl}
-use Rattle.typst_grammar.specs.Grammar.{tree, whole, whole_math, tree_math}
-use Rattle.typst_language.specs.Knot.{meaning_of}
-use Rattle.typst_code.specs.Markup.{note_piece, markup_turn, markup_exprs, markup_run, markup, markup_is_empty, delimited, heading, item, term_item, markup_expr}
-use Rattle.typst_language.specs.Depth.{deeper}
-use Rattle.typst_language.specs.Steps.{eat_making, eat, convert_and_eat, eat_if, close_if, unexpected, expected, expect, flush_trivia, within, node, node_with_trivia, note, grow}
-use Rattle.typst_language.specs.Meaning.{less, repeated, run, growing}
-use Rattle.typst_language.specs.Hand.{ahead, ahead_asks, column_at, hand_at, hand_asks}
-use Rattle.typst_language.specs.Tokens.{of_mode, hash, slash, star, token}
+use Rattle.typst_grammar.proofs.Cited.{refl, tree, whole, whole_math, tree_math, meaning_of, note_piece, markup_turn, markup_exprs, markup_run, markup, markup_is_empty, delimited, heading, item, term_item, markup_expr, deeper, eat_making, eat, convert_and_eat, eat_if, close_if, unexpected, expected, expect, flush_trivia, within, node, node_with_trivia, note, grow, less, repeated, run, growing, ahead, ahead_asks, column_at, hand_at, hand_asks, of_mode, hash, slash, star, token, sign, line_ends, whitespace, shebang, line_comment, block_comment, comment_end, code_point, backslash, number_after, encode, chars, seeing, expects}
 use Rattle.typst_tokens.specs.Text.{text as text_token, text_from}
 use Rattle.typst_tokens.specs.Markup.{markup as markup_token, heading as heading_token, dot, marker_or_text, marker, hyphen, minus, emphasis, numbering}
-use Rattle.typst_tokens.specs.Common.{sign, line_ends, whitespace, shebang, line_comment, block_comment, comment_end}
-use Rattle.typst_tokens.specs.Escapes.{code_point, backslash}
-use Rattle.typst_tokens.specs.Characters.{number_after}
-use lib.Utf8.{encode}
 use Rattle.typst_language.specs.Math.{primes as token_primes, atom as token_atom, by_class as token_by_class, single as token_single, math_from as token_math_from, math as token_math}
 use Rattle.typst_language.specs.Atoms.{cluster as token_cluster, number as token_number, text as token_text}
 use Rattle.typst_language.specs.MathNames.{after_name as token_after_name, named as token_named, name as token_name}
@@ -22,9 +10,7 @@ use Rattle.typst_code.specs.Attachments.{operand as math_operand, attachment_tur
 use Rattle.typst_code.specs.Delimited.{delimiter_sign as math_delimiter_sign, delimiter as math_delimiter, delimited_body as math_delimited_body, delimiter_if as math_delimiter_if, delimited as math_delimited}
 use Rattle.typst_code.specs.MathArguments.{argument_exprs as math_argument_exprs, argument_value as math_argument_value, eat_name as math_eat_name, argument_name as math_argument_name, named_argument as math_named_argument, spread_argument as math_spread_argument, math_argument as math_math_argument, argument_end as math_argument_end, math_argument_turn as math_math_argument_turn, math_arguments as math_math_arguments}
 use Rattle.typst_code.specs.MathExpressions.{math_text as math_math_text, root as math_root, math_primary as math_math_primary, fraction as math_fraction, math_tail_turn as math_math_tail_turn, math_grown as math_math_grown, math_expr as math_math_expr}
-use Rattle.std.specs.Str.{chars}
 use Rattle.typst_language.specs.ArgumentTokens.{spread_argument, named_argument, before_colon}
-use Rattle.typst_language.specs.Expected.{seeing, expects}
 use Rattle.typst_grammar.proofs.laws.trees_of_formulas.Goals as goal
 
 pub returns : goal.returns

@@ -1,18 +1,5 @@
-use Rattle.std.proofs.Common.{refl, subst}
-use Rattle.typst_language.specs.Calls.Call.{MarkupExpr, CodeExpr, MathExpr, Pattern}
-use Rattle.typst_language.specs.Meaning.{apart}
-use Rattle.typst_language.specs.Steps.{peek}
-use Rattle.typst_language.specs.Syntax.{◌>>◌}
+use Rattle.typst_grammar.proofs.Cited.{refl, subst, MarkupExpr, CodeExpr, MathExpr, Pattern, apart, peek, ◌>>◌, Reading, content_block, code_block, does-next, does-look, place_at, View, IsGiven, guessing_at, fills-apart}
 use Rattle.typst_language.specs.declared.reading.AtNewline.TheVariants as newline
-use Rattle.typst_language.specs.declared.reading.Reading.{Reading}
-use Rattle.typst_code.specs.Markup.{content_block}
-use Rattle.typst_code.specs.Sequences.{code_block}
-use Rattle.typst_language.proofs.Steps.{does-next, does-look}
-use Rattle.typst_language.proofs.Blocks.{fills-apart}
-use Rattle.typst_lines.specs.Place.{place_at}
-use Rattle.typst_language.specs.View.{View}
-use Rattle.typst_grammar.specs.Part.{IsGiven}
-use Rattle.typst_grammar.specs.Guessing.{guessing_at}
 use Rattle.typst_grammar.proofs.AtLevels.{calls-at, fills-level}
 use Rattle.typst_grammar.proofs.Parts.{part-is}
 use Rattle.typst_grammar.proofs.part.parse_block.Goals as goal

@@ -1,8 +1,4 @@
-use Rattle.std.proofs.Common.{refl}
-use Rattle.typst_language.specs.Calls.Call.{MarkupExpr, CodeExpr, MathExpr, Pattern}
-use Rattle.typst_language.proofs.Steps.{does-look}
-use Rattle.typst_lines.specs.Place.{place_at}
-use Rattle.typst_grammar.specs.Guessing.{guessing_at}
+use Rattle.typst_grammar.proofs.Cited.{refl, MarkupExpr, CodeExpr, MathExpr, Pattern, does-look, place_at, guessing_at}
 use Rattle.typst_grammar.proofs.AtLevels.{calls-at, fills-level}
 use Rattle.typst_grammar.proofs.Pieces.{starts, fills-in, guessing_in}
 use Rattle.typst_grammar.proofs.part.resume_pieces.Goals as goal

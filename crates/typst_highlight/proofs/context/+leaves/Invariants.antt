@@ -1,6 +1,4 @@
-use Rattle.std.proofs.Common.{◌≡◌, ◌+◌, ◌*◌, ◌≤◌}
-use Rattle.typst_tree.specs.Tree.{forest, count}
-use Rattle.typst_highlight.specs.Walk.{first_ahead, first_leaf}
+use Rattle.typst_highlight.proofs.Cited.{◌≡◌, ◌+◌, ◌*◌, ◌≤◌, forest, count, first_ahead, first_leaf}
 use Rattle.typst_highlight.proofs.context.+leaves.Given as goal
 
 abbrev pub decreases-first_leaf : goal.decreases-first_leaf

@@ -1,6 +1,4 @@
-use Rattle.std.proofs.Common.{ap, ◌∙◌, None}
-use Rattle.std.specs.Option.{is_some}
-use Rattle.typst_tree.specs.Tree.{forest}
+use Rattle.typst_highlight.proofs.Cited.{ap, ◌∙◌, None, is_some, forest}
 use Rattle.typst_highlight.proofs.Levels.{leaf_held}
 use Rattle.typst_highlight.proofs.context.holds_leaf.Goals as goal
 

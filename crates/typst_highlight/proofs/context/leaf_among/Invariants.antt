@@ -1,6 +1,4 @@
-use Rattle.std.proofs.Common.{◌≡◌, length}
-use Rattle.typst_tree.specs.Tree.{forest}
-use Rattle.typst_highlight.specs.Walk.{first_leaf}
+use Rattle.typst_highlight.proofs.Cited.{◌≡◌, length, forest, first_leaf}
 use Rattle.typst_highlight.proofs.context.leaf_among.Given as goal
 
 abbrev pub invariant-loop-node : goal.invariant-loop-node

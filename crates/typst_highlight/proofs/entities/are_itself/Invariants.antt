@@ -1,6 +1,4 @@
-use Rattle.std.proofs.Common.{◌≡◌}
-use Rattle.std.specs.List.{slice_range}
-use Rattle.typst_highlight.specs.Html.{escaped}
+use Rattle.typst_highlight.proofs.Cited.{◌≡◌, slice_range, escaped}
 use Rattle.typst_highlight.proofs.entities.are_itself.Given as goal
 
 abbrev pub invariant-loop-at : goal.invariant-loop-at

@@ -1,5 +1,4 @@
-use Rattle.std.proofs.Common.{◌≡◌, ◌+◌, refl, arith}
-use Rattle.std.specs.Prelude.{slice_index_or}
+use Rattle.typst_highlight.proofs.Cited.{◌≡◌, ◌+◌, refl, arith, slice_index_or}
 use Rattle.std.proofs.lemmas.Nat.{le_or_l, le_or_r}
 use Rattle.typst_highlight.proofs.Escapes.{plain_more}
 use Rattle.typst_highlight.proofs.entities.are_unmarked.Goals as goal

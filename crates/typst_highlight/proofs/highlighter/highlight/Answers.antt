@@ -1,8 +1,5 @@
-use Rattle.std.proofs.Common.{◌-◌, ◌<◌, refl, ap, sym, ◌∙◌, arith}
-use Rattle.typst_tree.specs.Tree.{nodes}
-use Rattle.typst_tree.specs.Linked.{linked}
+use Rattle.typst_highlight.proofs.Cited.{◌-◌, ◌<◌, refl, ap, sym, ◌∙◌, arith, nodes, linked, rule_of}
 use Rattle.typst_tree.proofs.Inside.{inside}
-use Rattle.typst_highlight.specs.Rules.{rule_of}
 use Rattle.typst_highlight.proofs.Bounds.{expression_after}
 use Rattle.typst_highlight.proofs.Chains.{hash_step, hash_end}
 use Rattle.typst_highlight.proofs.highlighter.highlight.Goals as goal

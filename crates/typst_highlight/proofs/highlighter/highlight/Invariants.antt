@@ -1,7 +1,4 @@
-use Rattle.std.proofs.Common.{◌≡◌, ℕ, ◌+◌, ◌-◌, ◌≤◌}
-use Rattle.typst_tree.specs.Tree.{nodes}
-use Rattle.typst_tree.specs.Linked.{linked}
-use Rattle.typst_highlight.specs.Nodes.{tag_of, tag_within}
+use Rattle.typst_highlight.proofs.Cited.{◌≡◌, ℕ, ◌+◌, ◌-◌, ◌≤◌, nodes, linked, tag_of, tag_within}
 use Rattle.typst_highlight.proofs.highlighter.highlight.Given as goal
 
 abbrev pub invariant-loop-bearer : goal.invariant-loop-bearer

@@ -1,6 +1,4 @@
-use Rattle.std.proofs.Common.{refl, sym, ◌∙◌}
-use Rattle.typst_tree.specs.Linked.{linked}
-use Rattle.typst_highlight.specs.Nodes.{surroundings}
+use Rattle.typst_highlight.proofs.Cited.{refl, sym, ◌∙◌, arith, linked, surroundings}
 use Rattle.typst_highlight.proofs.Bounds.{name_below}
 use Rattle.typst_highlight.proofs.Chains.{name_some, name_none, name_ends, name_goes}
 use Rattle.typst_highlight.proofs.highlighter.name_tag.Goals as goal
@@ -10,10 +8,7 @@ returns-in-Some c =
     name_some (linked c.names.bearer) (surroundings (linked c.names.bearer)) c.in-Some.tag c.in-Some.ensures refl ∙ sym c.names.invariant
 
 pub returns-in_err-earlier-in-None : goal.returns-in_err-earlier-in-None
-returns-in_err-earlier-in-None c =
-    c.from_residual.ensures
-    ∙ (name_ends (linked c.names.bearer) c.in_err-earlier-in-None.ensures
-    ∙ (sym (name_none (linked c.names.bearer) (surroundings (linked c.names.bearer)) c.in-None.ensures refl) ∙ sym c.names.invariant))
+returns-in_err-earlier-in-None c = grind (arith, name_ends, name_none)
 
 pub names-smaller : goal.names-smaller
 names-smaller c =

@@ -1,6 +1,4 @@
-use Rattle.std.proofs.Common.{◌≡◌, ◌+◌}
-use Rattle.typst_tree.specs.Linked.{linked}
-use Rattle.typst_highlight.specs.Nodes.{name_tag}
+use Rattle.typst_highlight.proofs.Cited.{◌≡◌, ◌+◌, linked, name_tag}
 use Rattle.typst_highlight.proofs.highlighter.name_tag.Given as goal
 
 abbrev pub invariant-names : goal.invariant-names

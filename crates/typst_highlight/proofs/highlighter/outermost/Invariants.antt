@@ -1,6 +1,4 @@
-use Rattle.std.proofs.Common.{◌≡◌}
-use Rattle.typst_tree.specs.Linked.{linked}
-use Rattle.typst_highlight.specs.Nodes.{outermost}
+use Rattle.typst_highlight.proofs.Cited.{◌≡◌, linked, outermost}
 use Rattle.typst_highlight.proofs.highlighter.outermost.Given as goal
 
 abbrev pub invariant-loop-parent : goal.invariant-loop-parent

@@ -1,6 +1,4 @@
-use Rattle.std.proofs.Common.{◌≡◌, ◌+◌, ◌++◌, take}
-use Rattle.std.specs.List.{slice_range}
-use Rattle.typst_highlight.specs.Html.{escaped}
+use Rattle.typst_highlight.proofs.Cited.{◌≡◌, ◌+◌, ◌++◌, take, slice_range, escaped}
 use Rattle.typst_highlight.proofs.page.put_few.Given as goal
 
 abbrev pub invariant-loop-index : goal.invariant-loop-index

@@ -1,6 +1,4 @@
-use Rattle.std.proofs.Common.{◌≡◌, take}
-use Rattle.std.specs.Prelude.{reverse}
-use Rattle.typst_highlight.specs.Walk.{ahead_of}
+use Rattle.typst_highlight.proofs.Cited.{◌≡◌, take, reverse, ahead_of}
 use Rattle.typst_highlight.proofs.progress.first_ahead.Given as goal
 
 abbrev pub invariant-loop-index : goal.invariant-loop-index

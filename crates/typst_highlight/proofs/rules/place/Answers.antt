@@ -1,5 +1,4 @@
-use Rattle.std.proofs.Common.{refl}
-use Rattle.typst_kinds.specs.Members.{place_of}
+use Rattle.typst_highlight.proofs.Cited.{refl, place_of}
 use Rattle.typst_highlight.proofs.rules.place.Goals as goal
 
 pub returns-clause-place : goal.returns-clause-place

@@ -1,7 +1,4 @@
-use Rattle.std.proofs.Common.{refl}
-use Rattle.typst_tree.specs.Tree.{forest}
-use Rattle.typst_highlight.specs.declared.progress.Waiting.{Waiting}
-use Rattle.typst_highlight.specs.Walk.{end, joined}
+use Rattle.typst_highlight.proofs.Cited.{refl, arith, forest, end, joined, Waiting}
 use Rattle.typst_highlight.proofs.Returning.{fewer_inner, left_inner}
 use Rattle.typst_highlight.proofs.sink.give_inner.Goals as goal
 
@@ -12,7 +9,4 @@ returns-clause-given g c =
     left_inner g.S.Sink.outlet p c.enter.new.self w c.args.node.now (forest c.args.later.now) _ _ _ _ _ _ c.requires c.in_ok-span.ensures c.in_ok-kept.ensures.begun c.in_ok-kept.ensures.kept c.leaf_text-text.ensures c.in_ok-own.ensures c.in_ok-enter.ensures.inside c.in_ok-enter.ensures.waiting refl refl refl refl
 
 pub returns-clause-fewer : goal.returns-clause-fewer
-returns-clause-fewer g c =
-    let p = c.args.progress.now in
-    let w : Waiting = record { nodes = c.args.later; start = end (joined p) c.args.node.now; level = p.level; kept = c.in_ok-kept.kept; parent = 0 } in
-    fewer_inner p c.enter.new.self w c.args.node.now (forest c.args.later.now) c.in_ok-enter.ensures.waiting refl
+returns-clause-fewer g c = grind (arith, fewer_inner)

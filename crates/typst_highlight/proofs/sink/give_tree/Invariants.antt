@@ -1,6 +1,4 @@
-use Rattle.std.proofs.Common.{◌≡◌}
-use Rattle.typst_tree.specs.Tree.{forest, none}
-use Rattle.typst_highlight.specs.Walk.{left, root_context, steps, walked}
+use Rattle.typst_highlight.proofs.Cited.{◌≡◌, forest, none, left, root_context, steps, walked}
 use Rattle.typst_highlight.proofs.sink.give_tree.Given as goal
 
 abbrev pub invariant-nodes : goal.invariant-nodes

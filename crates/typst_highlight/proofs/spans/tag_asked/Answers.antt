@@ -1,7 +1,4 @@
-use Rattle.std.proofs.Common.{◌∙◌}
-use Rattle.typst_tree.specs.Tree.{forest}
-use Rattle.typst_highlight.specs.Rules.{rule_of}
-use Rattle.typst_highlight.specs.Walk.{joined, next_kind, tag_under}
+use Rattle.typst_highlight.proofs.Cited.{◌∙◌, forest, rule_of, joined, next_kind, tag_under}
 use Rattle.typst_highlight.proofs.Levels.{under_tag}
 use Rattle.typst_highlight.proofs.spans.tag_asked.Goals as goal
 

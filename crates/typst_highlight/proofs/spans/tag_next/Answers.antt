@@ -1,5 +1,3 @@
-use Rattle.std.proofs.Common.{ap, sym, ◌∙◌}
-use Rattle.typst_tree.specs.Tree.{forest}
-use Rattle.typst_highlight.specs.Walk.{joined, name}
+use Rattle.typst_highlight.proofs.Cited.{ap, sym, ◌∙◌, forest, joined, name}
 use Rattle.typst_highlight.proofs.NameRules.{fixed_rule, name_none, name_some, named_rule, other_rule}
 use Rattle.typst_highlight.proofs.spans.tag_next.Goals as goal

@@ -1,6 +1,4 @@
-use Rattle.std.proofs.Common.{ap, sym, subst, ◌∙◌, None, length, refl}
-use Rattle.typst_tree.specs.Tree.{saturated, text_of}
-use Rattle.typst_highlight.specs.Stretches.{AreJoined}
+use Rattle.typst_highlight.proofs.Cited.{ap, sym, subst, ◌∙◌, None, length, refl, saturated, text_of, AreJoined}
 use Rattle.typst_highlight.proofs.Outlets.{tagger_root, joined_root}
 use Rattle.typst_highlight.proofs.stretches.tag_stretches.Goals as goal
 

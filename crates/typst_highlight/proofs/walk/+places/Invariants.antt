@@ -1,7 +1,4 @@
-use Rattle.std.proofs.Common.{◌≡◌, ◌+◌, ◌*◌, ◌≤◌}
-use Rattle.std.specs.Option.{IfSome}
-use Rattle.typst_tree.specs.Tree.{count, forest}
-use Rattle.typst_highlight.specs.Walk.{found, if_found}
+use Rattle.typst_highlight.proofs.Cited.{◌≡◌, ◌+◌, ◌*◌, ◌≤◌, IfSome, count, forest, found, if_found}
 use Rattle.typst_highlight.proofs.Places.{leaf_behind, steps_behind}
 use Rattle.typst_highlight.proofs.walk.+places.Given as goal
 

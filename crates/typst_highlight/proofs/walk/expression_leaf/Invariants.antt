@@ -1,6 +1,4 @@
-use Rattle.std.proofs.Common.{◌≡◌, ◌<◌, length}
-use Rattle.typst_tree.specs.Tree.{count, forest}
-use Rattle.typst_highlight.specs.Walk.{expression_at, found, size}
+use Rattle.typst_highlight.proofs.Cited.{◌≡◌, ◌<◌, length, count, forest, expression_at, found, size}
 use Rattle.typst_highlight.proofs.walk.expression_leaf.Given as goal
 
 abbrev pub invariant-loop-node : goal.invariant-loop-node

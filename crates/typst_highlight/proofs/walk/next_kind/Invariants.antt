@@ -1,6 +1,4 @@
-use Rattle.std.proofs.Common.{◌≡◌, length}
-use Rattle.typst_tree.specs.Tree.{forest}
-use Rattle.typst_highlight.specs.Walk.{next_kind}
+use Rattle.typst_highlight.proofs.Cited.{◌≡◌, length, forest, next_kind}
 use Rattle.typst_highlight.proofs.walk.next_kind.Given as goal
 
 abbrev pub invariant-loop-node : goal.invariant-loop-node

@@ -1,7 +1,4 @@
-use Rattle.std.proofs.Common.{◌≡◌, ◌+◌, ◌*◌}
-use Rattle.std.specs.Prelude.{reverse}
-use Rattle.typst_tree.specs.Tree.{count, forest}
-use Rattle.typst_highlight.specs.Walk.{passed_row, passed_rows}
+use Rattle.typst_highlight.proofs.Cited.{◌≡◌, ◌+◌, ◌*◌, reverse, count, forest, passed_row, passed_rows}
 use Rattle.typst_highlight.proofs.Returning.{row_returns}
 use Rattle.typst_highlight.proofs.walk.passed_row.Given as goal
 

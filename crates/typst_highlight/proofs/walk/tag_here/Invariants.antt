@@ -1,6 +1,4 @@
-use Rattle.std.proofs.Common.{◌≡◌}
-use Rattle.typst_tree.specs.Tree.{forest}
-use Rattle.typst_highlight.specs.Walk.{size, tag, tag_at}
+use Rattle.typst_highlight.proofs.Cited.{◌≡◌, forest, size, tag, tag_at}
 use Rattle.typst_highlight.proofs.walk.tag_here.Given as goal
 
 abbrev pub invariant-loop-bearer : goal.invariant-loop-bearer

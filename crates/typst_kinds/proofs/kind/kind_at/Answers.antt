@@ -1,5 +1,4 @@
-use Rattle.std.proofs.Common.{ap, sym, ◌∙◌}
-use Rattle.std.specs.Prelude.{option_map}
+use Rattle.typst_kinds.proofs.Cited.{ap, sym, ◌∙◌, option_map}
 use Rattle.typst_kinds.proofs.Places.{lent}
 use Rattle.typst_kinds.proofs.kind.kind_at.Goals as goal
 

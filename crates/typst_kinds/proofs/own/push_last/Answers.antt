@@ -1,5 +1,4 @@
-use Rattle.std.proofs.Common.{arith}
-use Rattle.typst_kinds.specs.Diagnostic.{hinted}
+use Rattle.typst_kinds.proofs.Cited.{arith, hinted}
 use Rattle.typst_kinds.proofs.LastElement.{at_last-set}
 use Rattle.typst_kinds.proofs.own.push_last.Goals as goal
 

@@ -1,5 +1,4 @@
-use Rattle.std.proofs.Common.{refl}
-use Rattle.typst_kinds.specs.Members.{place_of}
+use Rattle.typst_kinds.proofs.Cited.{refl, place_of}
 use Rattle.typst_kinds.proofs.set.place.Goals as goal
 
 pub returns-clause-place : goal.returns-clause-place

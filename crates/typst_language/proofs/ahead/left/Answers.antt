@@ -1,5 +1,4 @@
-use Rattle.std.proofs.Common.{length, encode_utf8_all, ap, sym, ◌∙◌}
-use Rattle.std.proofs.lemmas.Str.{encodes-chars}
+use Rattle.typst_language.proofs.Cited.{length, encode_utf8_all, ap, sym, ◌∙◌, encodes-chars}
 use Rattle.typst_language.proofs.ahead.left.Goals as goal
 
 pub returns : goal.returns

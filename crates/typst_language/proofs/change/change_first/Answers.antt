@@ -1,5 +1,4 @@
-use Rattle.std.proofs.Common.{arith}
-use Rattle.std.proofs.lemmas.Grind.{common_steps}
+use Rattle.typst_language.proofs.Cited.{arith, common_steps}
 use Rattle.typst_language.proofs.change.change_first.Goals as goal
 
 pub returns-clause-changed : goal.returns-clause-changed

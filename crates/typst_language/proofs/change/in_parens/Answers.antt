@@ -1,5 +1,4 @@
-use Rattle.std.proofs.Common.{◌≡◌, ℕ, suc, ◌-◌, Bool, true, ◌&&◌, length, get_or, ap, sym, ◌∙◌, arith}
-use Rattle.typst_language.specs.Shape.{is_sign}
+use Rattle.typst_language.proofs.Cited.{◌≡◌, ℕ, suc, ◌-◌, Bool, true, ◌&&◌, length, get_or, ap, sym, ◌∙◌, arith, is_sign}
 use Rattle.typst_language.proofs.LastNodes.{parens-ends}
 use Rattle.typst_language.proofs.change.in_parens.Goals as goal
 

@@ -1,6 +1,4 @@
-use Rattle.std.proofs.Common.{◌∙◌, ◌==◌, ap, sym}
-use Rattle.std.proofs.lemmas.Bool.{ne_eqb}
-use Rattle.typst_language.specs.Depth.{deeper}
+use Rattle.typst_language.proofs.Cited.{◌∙◌, ◌==◌, ap, sym, ne_eqb, deeper}
 use Rattle.typst_language.proofs.Steps.{does-next, does-gives, does-deepest, does-pick, does-other, does-calls}
 use Rattle.typst_language.proofs.depth.deeper_code_expr.Goals as goal
 

@@ -8,6 +8,4 @@ returns-then-not-goes_on g c l h =
     (does-last h.sound (c.in_ok-more.ensures l h) (λ more. let stuck = c.goes_on.ensures.stops c.if-not-goes_on.true more in omega arith))
 
 pub turns-preserved : goal.turns-preserved
-turns-preserved g c l h =
-    let goes = c.goes_on.ensures.goes c.if-not-goes_on.false in
-    turning-next h.sound (c.turns.invariant l h) (rw goes.0 at c.in_ok-more.ensures l h) (omega arith)
+turns-preserved g c l h = grind (arith, turning-next)

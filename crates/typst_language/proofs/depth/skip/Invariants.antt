@@ -1,7 +1,4 @@
-use Rattle.typst_language.specs.Meaning.{Level}
-use Rattle.typst_language.specs.Depth.{skip_one}
-use Rattle.typst_language.specs.Bytes.{bytes_left}
-use Rattle.typst_language.specs.View.{Fills}
+use Rattle.typst_language.proofs.Cited.{Level, skip_one, bytes_left, Fills}
 use Rattle.typst_language.proofs.Steps.{Turning}
 use Rattle.typst_language.proofs.depth.skip.Given as goal
 

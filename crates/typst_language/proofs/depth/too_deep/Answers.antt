@@ -1,7 +1,4 @@
-use Rattle.std.proofs.Common.{codes}
-use Rattle.typst_language.specs.declared.reading.AtNewline.TheVariants.{Continue}
-use Rattle.typst_language.specs.Shape.Shape.{fails}
-use Rattle.typst_language.specs.Depth.{too_deep}
+use Rattle.typst_language.proofs.Cited.{codes, fails, too_deep, Continue}
 use Rattle.typst_language.proofs.Steps.{does-next, does-gives, does-node, does-within}
 use Rattle.typst_language.proofs.depth.too_deep.Goals as goal
 

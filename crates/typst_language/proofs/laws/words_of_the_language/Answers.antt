@@ -1,15 +1,6 @@
-use lib.Utf8.{encode}
-use Rattle.std.proofs.Common.{refl}
-use Rattle.typst_tokens.specs.Characters.{number_after}
-use Rattle.typst_tokens.specs.Common.{line_ends, whitespace, shebang, line_comment, block_comment, comment_end}
+use Rattle.typst_language.proofs.Cited.{encode, refl, number_after, line_ends, whitespace, shebang, line_comment, block_comment, comment_end, sign, of_mode, hash, slash, star, token, ahead, ahead_asks, column_at, hand_at, hand_asks, less, repeated, growing, nesting, run, eat_making, eat, convert_and_eat, eat_if, close_if, unexpected, expected, expect, flush_trivia, within, node, node_with_trivia, note, grow, nest, code_point, backslash}
 use Rattle.typst_tokens.specs.Markup.{markup as markup_token, heading as heading_token, dot, marker_or_text, marker, hyphen, minus, emphasis, numbering}
-use Rattle.typst_tokens.specs.Common.{sign}
-use Rattle.typst_tokens.specs.Escapes.{code_point, backslash}
 use Rattle.typst_tokens.specs.Text.{text as text_token, text_from}
-use Rattle.typst_lexer.specs.Tokens.{of_mode, hash, slash, star, token}
-use Rattle.typst_language.specs.Hand.{ahead, ahead_asks, column_at, hand_at, hand_asks}
-use Rattle.typst_language.specs.Meaning.{less, repeated, growing, nesting, run}
-use Rattle.typst_language.specs.Steps.{eat_making, eat, convert_and_eat, eat_if, close_if, unexpected, expected, expect, flush_trivia, within, node, node_with_trivia, note, grow, nest}
 use Rattle.typst_language.proofs.laws.words_of_the_language.Goals as goal
 
 pub returns : goal.returns

@@ -1,5 +1,4 @@
-use Rattle.std.proofs.Common.{◌≡◌, drop}
-use Rattle.typst_language.specs.Noted.{least_of, reach_of}
+use Rattle.typst_language.proofs.Cited.{◌≡◌, drop, least_of, reach_of}
 use Rattle.typst_language.proofs.log.hull_of.Given as goal
 
 abbrev pub invariant-loop-note : goal.invariant-loop-note

@@ -1,5 +1,4 @@
-use Rattle.std.proofs.Common.{rules}
-use Rattle.typst_language.specs.Meaning.{less}
+use Rattle.typst_language.proofs.Cited.{rules, less}
 use Rattle.typst_language.proofs.nodes.trim.Goals as goal
 
 pub returns : goal.returns

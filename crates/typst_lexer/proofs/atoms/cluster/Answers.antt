@@ -1,23 +1,12 @@
-use Rattle.std.proofs.Common.{ap, take, ◌∙◌}
-use Rattle.std.specs.Str.{chars}
-use Rattle.typst_lines.proofs.LineCluster.{line-some}
-use Rattle.typst_lines.specs.Classes.{in_line}
-use Rattle.typst_lines.specs.Place.{Place, run}
-use Rattle.typst_lines.specs.Scanner.{place}
-use Rattle.typst_tokens.specs.Sight.{Sight}
-use Rattle.typst_lexer.proofs.Clusters.{some-chars, inside-run, bytes-is, cluster-none, cluster-some, skipped-is}
+use Rattle.typst_lexer.proofs.Cited.{common_steps, ap, take, ◌∙◌, arith, chars, in_line, Place, run, place, Sight}
+use Rattle.typst_lexer.proofs.Clusters.{inside-run, bytes-is, cluster-none, cluster-some, skipped-is}
 use Rattle.typst_lexer.proofs.atoms.cluster.Goals as goal
 
 pub returns-then-is_empty : goal.returns-then-is_empty
-returns-then-is_empty g c =
-    let r = c.see_line-line in
-    cluster-none (g.C.Classes.classes c.args.classes.now) c.args.s.now r.new.self c.eat.new.self r.result.now c.is_empty.result c.plain.result
-    r.utf8 r.ensures.taken r.ensures.sight c.is_empty.ensures c.if-is_empty.true c.eat.ensures.sight c.plain.ensures
+returns-then-is_empty g c = grind (arith, cluster-none)
 
 pub cluster-requires-clause-some : goal.cluster-requires-clause-some
-cluster-requires-clause-some g c =
-    let r = c.see_line-line in
-    line-some r.result.now (some-chars r.result.now c.is_empty.result r.utf8 c.is_empty.ensures c.if-is_empty.false)
+cluster-requires-clause-some g c = grind (arith, common_steps)
 
 pub cluster-requires-clause-inside : goal.cluster-requires-clause-inside
 cluster-requires-clause-inside g c = inside-run c.args.s.now.place c.see_line-line.result.now c.see_line-line.ensures.taken

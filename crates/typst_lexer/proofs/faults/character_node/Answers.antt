@@ -1,5 +1,4 @@
-use Rattle.std.proofs.Common.{rules}
-use Rattle.std.proofs.lemmas.Str.{encodes-chars}
+use Rattle.typst_lexer.proofs.Cited.{rules, encodes-chars}
 use Rattle.typst_lexer.proofs.faults.character_node.Goals as goal
 
 pub returns : goal.returns

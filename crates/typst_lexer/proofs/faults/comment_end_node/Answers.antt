@@ -1,5 +1,4 @@
-use Rattle.std.proofs.lemmas.Str.{encodes-chars}
-use Rattle.std.proofs.Common.{rules}
+use Rattle.typst_lexer.proofs.Cited.{encodes-chars, rules}
 use Rattle.typst_lexer.proofs.faults.comment_end_node.Goals as goal
 
 pub returns : goal.returns

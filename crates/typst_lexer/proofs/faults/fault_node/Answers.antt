@@ -1,4 +1,4 @@
-use Rattle.std.proofs.lemmas.Str.{encodes-chars}
+use Rattle.typst_lexer.proofs.Cited.{arith, encodes-chars}
 use Rattle.typst_lexer.proofs.faults.fault_node.Goals as goal
 
 pub returns-in-UnclosedRaw : goal.returns-in-UnclosedRaw
@@ -8,8 +8,7 @@ pub returns-in-UnclosedEscape : goal.returns-in-UnclosedEscape
 returns-in-UnclosedEscape c = rw (c.in-UnclosedEscape.is, encodes-chars c.args.text.now c.utf8.text) c.error-in-UnclosedEscape.ensures
 
 pub returns-in_ok-message-in-InvalidEscape : goal.returns-in_ok-message-in-InvalidEscape
-returns-in_ok-message-in-InvalidEscape c =
-    rw (c.in-InvalidEscape.is, encodes-chars c.args.text.now c.utf8.text, ← c.in_ok-message-in-InvalidEscape.ensures) c.error_saying.ensures
+returns-in_ok-message-in-InvalidEscape c = grind (arith, encodes-chars)
 
 pub returns-in-UnbalancedLink : goal.returns-in-UnbalancedLink
 returns-in-UnbalancedLink c = rw (c.in-UnbalancedLink.is, encodes-chars c.args.text.now c.utf8.text) c.error-in-UnbalancedLink.ensures

@@ -1,11 +1,6 @@
-use Rattle.std.proofs.Common.{ap, sym, ◌∙◌, ◌++◌, codes}
-use Rattle.std.proofs.lemmas.Str.{encodes-chars}
-use Rattle.std.specs.Str.{chars}
+use Rattle.typst_lexer.proofs.Cited.{ap, sym, ◌∙◌, ◌++◌, codes, encodes-chars, chars, operator_hints, all_advised, InvalidOperator}
 use Rattle.typst_lexer.proofs.TokenTexts.{fault-is}
 use Rattle.typst_lexer.proofs.faults.operator_node.Goals as goal
-use Rattle.typst_lexer.specs.Faults.{operator_hints}
-use Rattle.typst_tree.specs.Tree.{all_advised}
-use Rattle.typst_tokens.specs.declared.token.Fault.TheVariants.{InvalidOperator}
 
 pub returns : goal.returns
 returns c =

@@ -1,7 +1,4 @@
-use Rattle.std.proofs.Common.{ap, sym, ◌∙◌, refl}
-use Rattle.std.proofs.lemmas.Str.{encodes-chars}
-use Rattle.std.specs.Str.{chars}
-use Rattle.typst_lines.specs.Scanner.{place}
+use Rattle.typst_lexer.proofs.Cited.{ap, sym, ◌∙◌, refl, encodes-chars, chars, place}
 use Rattle.typst_lexer.proofs.Accesses.{access-names, stops-at, next-name, dot-taken, dot-shortens, no-names}
 use Rattle.typst_lexer.proofs.fields.access_node.Goals as goal
 

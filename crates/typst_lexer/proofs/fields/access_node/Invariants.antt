@@ -1,8 +1,4 @@
-use Rattle.std.proofs.Common.{◌≡◌, false, length}
-use Rattle.std.specs.Str.{chars}
-use Rattle.typst_lines.specs.Place.{passes, scout}
-use Rattle.typst_lines.specs.Scanner.{place}
-use Rattle.typst_lexer.specs.Fields.{access_node, fields_node}
+use Rattle.typst_lexer.proofs.Cited.{◌≡◌, false, length, chars, passes, scout, place, access_node, fields_node}
 use Rattle.typst_lexer.proofs.Accesses.{names_after, no_dot}
 use Rattle.typst_lexer.proofs.fields.access_node.Given as goal
 

@@ -1,8 +1,5 @@
-use Rattle.std.proofs.Common.{◌∙◌, ◌==◌, ap, sym, arith}
+use Rattle.typst_lexer.proofs.Cited.{◌∙◌, ◌==◌, ap, sym, arith, Place, moved, passes, scout, Sight, saw, plain}
 use Rattle.typst_kinds.specs.declared.kind.SyntaxKind.TheVariants as kind
-use Rattle.typst_lines.specs.Place.{Place, moved, passes, scout}
-use Rattle.typst_tokens.specs.Sight.{Sight, saw}
-use Rattle.typst_tokens.specs.Token.{plain}
 use Rattle.typst_lexer.proofs.Spaces.{is-space, lone-space}
 use Rattle.typst_lexer.proofs.lexer.eat_lone_space.Goals as goal
 
@@ -15,7 +12,4 @@ returns-clause-eaten c = λ t k mode.
     ∙ ap (λ (w : Sight). (plain kind.Space, w)) (sym (c.peek-2.ensures.sight ∙ ap (saw 1) c.eat.ensures.sight))
 
 pub returns-clause-space : goal.returns-clause-space
-returns-clause-space c = λ t.
-    let here = c.ahead-ahead.ensures.place in
-    let space = ap (λ (z : Place). passes (λ d. d == 32) (scout 0 z)) (sym here) ∙ sym c.if-not-eat_if.ensures.taken in
-    (is-space (scout 0 c.args.s.now.place) space, ap (λ (v : Sight). v.place) (c.peek-2.ensures.sight ∙ ap (saw 1) c.eat.ensures.sight))
+returns-clause-space c = grind (arith, is-space)

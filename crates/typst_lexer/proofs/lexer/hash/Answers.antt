@@ -1,5 +1,4 @@
-use Rattle.std.proofs.Common.{rules}
-use Rattle.typst_lexer.specs.Tokens.{hash}
+use Rattle.typst_lexer.proofs.Cited.{rules, hash}
 use Rattle.typst_lexer.proofs.lexer.hash.Goals as goal
 
 pub returns-then-eq : goal.returns-then-eq

@@ -1,8 +1,4 @@
-use Rattle.std.proofs.Common.{◌∙◌, ap, sym}
-use Rattle.std.proofs.lemmas.Str.{IsUtf8-had}
-use Rattle.typst_lines.specs.Scanner.{place}
-use Rattle.typst_tokens.specs.Sight.{text_of}
-use Rattle.typst_tokens.proofs.Sights.{read-is, hull-is, text-is, text-read}
+use Rattle.typst_lexer.proofs.Cited.{◌∙◌, ap, sym, IsUtf8-had, place, text_of, read-is, hull-is, text-is, text-read}
 use Rattle.typst_lexer.proofs.lexer.read_up_to.Goals as goal
 
 pub returns-clause-scans : goal.returns-clause-scans

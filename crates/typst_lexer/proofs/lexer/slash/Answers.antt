@@ -1,5 +1,4 @@
-use Rattle.std.proofs.Common.{rules}
-use Rattle.typst_lexer.specs.Tokens.{slash}
+use Rattle.typst_lexer.proofs.Cited.{rules, slash}
 use Rattle.typst_lexer.proofs.lexer.slash.Goals as goal
 
 pub returns-in-Some-eq42 : goal.returns-in-Some-eq42

@@ -1,6 +1,5 @@
-use Rattle.std.proofs.Common.{◌∙◌, ap, sym}
+use Rattle.typst_lexer.proofs.Cited.{◌∙◌, ap, sym, sight}
 use Rattle.typst_lexer.specs.ArgumentTokens.{spread_argument as spread}
-use Rattle.typst_tokens.specs.Sight.{sight}
 use Rattle.typst_lexer.proofs.lexer.spread_argument.Goals as goal
 
 pub returns : goal.returns

@@ -1,5 +1,4 @@
-use Rattle.std.proofs.Common.{sym, ◌∙◌}
-use Rattle.typst_lines.proofs.Empty.{none-is}
+use Rattle.typst_lexer.proofs.Cited.{sym, ◌∙◌, none-is}
 use Rattle.typst_lexer.proofs.math_arguments.has_nothing.Goals as goal
 
 pub returns : goal.returns

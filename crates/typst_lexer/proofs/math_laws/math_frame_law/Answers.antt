@@ -1,6 +1,4 @@
-use Rattle.typst_lexer.specs.ArgumentTokens.{named_argument, spread_argument}
-use Rattle.typst_lexer.specs.Math.{math}
-use Rattle.typst_tokens.proofs.Frame.{frame}
+use Rattle.typst_lexer.proofs.Cited.{named_argument, spread_argument, math, frame}
 use Rattle.typst_lexer.proofs.math_laws.math_frame_law.Goals as goal
 
 pub returns : goal.returns

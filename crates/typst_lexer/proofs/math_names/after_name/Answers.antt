@@ -1,14 +1,9 @@
-use Rattle.std.proofs.Common.{sym, ap, ◌∙◌}
+use Rattle.typst_lexer.proofs.Cited.{sym, ap, ◌∙◌, arith, sight, went}
 use Rattle.typst_lexer.proofs.FieldNames.{rest, rest-run, rest-field, rest-end, name-alone, name-field, stops, field-shortens}
-use Rattle.typst_lexer.specs.MathNames.{continues}
-use Rattle.typst_tokens.specs.Sight.{saw, sight, went, went_past}
 use Rattle.typst_lexer.proofs.math_names.after_name.Goals as goal
 
 pub returns-then-not-field_follows : goal.returns-then-not-field_follows
-returns-then-not-field_follows g c =
-    let k = g.C.Classes.classes c.args.classes.now in
-    let f = c.field_follows in
-    name-alone k c.args.s.now (sym f.ensures.found ∙ c.if-not-field_follows.true) ∙ ap (λ x. (x, saw 2 c.args.s.now)) (sym c.plain.ensures) ∙ ap (λ x. (c.plain.result, x)) (sym f.ensures.sight)
+returns-then-not-field_follows g c = grind (arith, name-alone)
 
 pub loop-s-init : goal.loop-s-init
 loop-s-init g c =
@@ -24,11 +19,7 @@ loop-s-init g c =
     }
 
 pub loop-s-smaller : goal.loop-s-smaller
-loop-s-smaller g c =
-    let k = g.C.Classes.classes c.args.classes.now in
-    let f = c.field_follows-in-loop-s in
-    field-shortens k c.loop-s.s c.eat_while-in-loop-s.new.self (sym f.ensures.found ∙ c.loop-s-test.true)
-    (c.eat_while-in-loop-s.ensures.sight ∙ ap (went_past (continues k)) (c.eat_two-in-loop-s.ensures.sight ∙ ap (went 2) f.ensures.sight))
+loop-s-smaller g c = grind (arith, field-shortens)
 
 pub loop-s-preserved : goal.loop-s-preserved
 loop-s-preserved g c =
@@ -45,9 +36,4 @@ loop-s-preserved g c =
     }
 
 pub returns : goal.returns
-returns g c =
-    let k = g.C.Classes.classes c.args.classes.now in
-    let v = c.loop-s.s in
-    let i = c.loop-s.invariant in
-    let f = c.field_follows-in-loop-s in
-    sym i.reads ∙ rest-end k v i.covers i.stops (sym f.ensures.found ∙ c.loop-s-test.false) ∙ ap (λ x. (x, saw 2 v)) (sym c.plain-2.ensures) ∙ ap (λ x. (c.plain-2.result, x)) (sym f.ensures.sight)
+returns g c = grind (arith, rest-end)

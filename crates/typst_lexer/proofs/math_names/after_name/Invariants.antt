@@ -1,7 +1,4 @@
-use Rattle.std.proofs.Common.{◌≡◌, false, length}
-use Rattle.typst_lines.specs.Place.{passes, scout}
-use Rattle.typst_lexer.specs.MathNames.{after_name, continues}
-use Rattle.typst_tokens.specs.Sight.{Covers, sight}
+use Rattle.typst_lexer.proofs.Cited.{◌≡◌, false, length, passes, scout, after_name, continues, Covers, sight}
 use Rattle.typst_lexer.proofs.FieldNames.{rest}
 use Rattle.typst_lexer.proofs.math_names.after_name.Given as goal
 

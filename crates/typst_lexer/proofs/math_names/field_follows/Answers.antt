@@ -1,5 +1,4 @@
-use Rattle.std.proofs.Common.{ap, ◌∙◌}
-use Rattle.typst_tokens.specs.Sight.{saw}
+use Rattle.typst_lexer.proofs.Cited.{ap, ◌∙◌, saw}
 use Rattle.typst_lexer.proofs.FieldNames.{saw-further}
 use Rattle.typst_lexer.proofs.math_names.field_follows.Goals as goal
 

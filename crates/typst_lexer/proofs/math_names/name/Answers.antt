@@ -1,9 +1,5 @@
-use Rattle.std.proofs.Common.{take, sym, ap, ◌∙◌}
-use Rattle.std.specs.Str.{chars}
-use Rattle.typst_lines.specs.Place.{Place, moved, passes}
+use Rattle.typst_lexer.proofs.Cited.{take, sym, ap, ◌∙◌, chars, Place, moved, passes, continues, Sight, text_of, went}
 use Rattle.typst_lexer.proofs.OwnNames.{size, after-is, text-stays, own-is, own-some, own-inside, name-cluster, name-ident}
-use Rattle.typst_lexer.specs.MathNames.{continues}
-use Rattle.typst_tokens.specs.Sight.{Sight, text_of, went}
 use Rattle.typst_lexer.proofs.math_names.name.Goals as goal
 
 pub since-own-requires-clause-text : goal.since-own-requires-clause-text

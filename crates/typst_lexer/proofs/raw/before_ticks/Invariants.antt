@@ -1,7 +1,4 @@
-use Rattle.std.proofs.Common.{◌≡◌, ◌-◌, reverse}
-use Rattle.std.specs.Str.{chars}
-use Rattle.typst_lines.specs.Scanner.{place}
-use Rattle.typst_lexer.specs.Raw.{past_ticks}
+use Rattle.typst_lexer.proofs.Cited.{◌≡◌, ◌-◌, reverse, chars, place, past_ticks}
 use Rattle.typst_lexer.proofs.raw.before_ticks.Given as goal
 
 abbrev pub invariant-loop-i : goal.invariant-loop-i

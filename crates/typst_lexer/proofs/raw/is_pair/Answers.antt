@@ -1,6 +1,4 @@
-use Rattle.std.proofs.Common.{sym, ◌∙◌}
-use Rattle.std.specs.Str.{chars}
-use Rattle.typst_lines.proofs.Empty.{none-is}
+use Rattle.typst_lexer.proofs.Cited.{sym, ◌∙◌, chars, none-is}
 use Rattle.typst_lexer.proofs.Tags.{pair-is}
 use Rattle.typst_lexer.proofs.raw.is_pair.Goals as goal
 

@@ -1,6 +1,4 @@
-use Rattle.std.proofs.Common.{Some, length, sym, ap, ◌∙◌}
-use Rattle.std.specs.Str.{chars}
-use Rattle.typst_lines.specs.Scanner.{place}
+use Rattle.typst_lexer.proofs.Cited.{common_steps, sym, ◌∙◌, arith, chars, place}
 use Rattle.typst_lexer.proofs.Tags.{split-is, node-pair, node-open, node-closed}
 use Rattle.typst_lexer.proofs.raw.raw_node.Goals as goal
 
@@ -18,12 +16,9 @@ returns-then-is_pair c =
 pub returns-in_default : goal.returns-in_default
 returns-in_default c =
     let h = split-is c.args.text.now c.eat_while-delim.result.now c.after-rest.result.now (place c.new-s.result) (place c.eat_while-delim.new.self) c.eat_while-delim.utf8 c.new-s.ensures.place c.eat_while-delim.ensures.moved c.eat_while-delim.ensures.taken c.after-rest.ensures.characters in
-    c.in_ok-node-2.ensures
-    ∙ sym (node-open (chars c.args.text.now) (chars c.eat_while-delim.result.now) (chars c.after-rest.result.now) (length c.eat_while-delim.result.now) (sym c.if-is_pair.ensures) h.ascii c.in_default.ensures) ∙ sym h.whole
+    grind (arith, common_steps, node-open)
 
 pub returns : goal.returns
 returns c =
     let h = split-is c.args.text.now c.eat_while-delim.result.now c.after-rest.result.now (place c.new-s.result) (place c.eat_while-delim.new.self) c.eat_while-delim.utf8 c.new-s.ensures.place c.eat_while-delim.ensures.moved c.eat_while-delim.ensures.taken c.after-rest.ensures.characters in
-    c.in_ok-node-3.ensures
-    ∙ sym (node-closed (chars c.args.text.now) (chars c.eat_while-delim.result.now) (chars c.after-rest.result.now) (chars c.before-2.result.now) (length c.eat_while-delim.result.now) (sym c.if-is_pair.ensures) h.ascii (c.in-Some.ensures ∙ ap Some (sym c.before-2.ensures.characters)))
-    ∙ sym h.whole
+    grind (arith, common_steps, node-closed)

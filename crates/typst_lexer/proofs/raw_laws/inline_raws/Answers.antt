@@ -1,8 +1,4 @@
-use Rattle.std.proofs.Common.{refl}
-use lib.Utf8.{encode}
-use Rattle.typst_lexer.specs.RawLines.{later_lines, last_raw_line, dedent, closing, front, block_leaves, inline_leaves}
-use Rattle.typst_lexer.specs.RawTag.{tag, warned}
-use Rattle.typst_lexer.specs.Raw.{raw_node}
+use Rattle.typst_lexer.proofs.Cited.{refl, encode, later_lines, last_raw_line, dedent, closing, front, block_leaves, inline_leaves, tag, warned, raw_node}
 use Rattle.typst_lexer.proofs.raw_laws.inline_raws.Goals as goal
 
 pub returns : goal.returns

@@ -1,19 +1,11 @@
-use Rattle.std.proofs.Common.{refl, sym, ap, ◌∙◌, min}
-use Rattle.std.specs.Str.{chars}
-use Rattle.typst_lines.specs.Scanner.{place}
-use Rattle.typst_lexer.specs.RawLines.{least_indent, later_lines}
+use Rattle.typst_lexer.proofs.Cited.{refl, sym, ap, ◌∙◌, min, arith, chars, place}
 use Rattle.typst_lexer.proofs.Moves.{later-first, past-end, line-shorter, nothing-left}
 use Rattle.typst_lexer.proofs.Loops.{least-step}
 use Rattle.typst_lexer.proofs.Rows.{later-none}
 use Rattle.typst_lexer.proofs.raw_lines.dedent.Goals as goal
 
 pub loop-s-init : goal.loop-s-init
-loop-s-init c = record {
-  least =
-      ap (least_indent c.indent-least.result) (later-first c.args.text.now (place c.new-s.result) (place c.eat_while.new.self) c.new-s.ensures.place c.eat_while.ensures.moved)
-      ∙ ap (λ n. least_indent n (later_lines (chars c.args.text.now))) c.indent-least.ensures;
-  at_end = past-end (place c.new-s.result) (place c.eat_while.new.self) c.eat_while.ensures.moved;
-}
+loop-s-init c = grind (arith, later-first, past-end)
 
 pub loop-s-smaller-then-not-is_blank : goal.loop-s-smaller-then-not-is_blank
 loop-s-smaller-then-not-is_blank c = line-shorter (place c.loop-s.s) (place c.eat_newline.new.self) (place c.eat_while-line.new.self) (sym c.loop-s-test.ensures.taken) c.eat_newline.ensures.moved c.eat_while-line.ensures.moved
@@ -44,6 +36,4 @@ loop-s-preserved c =
     }
 
 pub returns : goal.returns
-returns c =
-    let none = nothing-left (place c.loop-s.s).ahead c.loop-s.invariant.at_end (sym c.loop-s-test.ensures.taken) in
-    sym (ap (least_indent c.loop-s.least) (ap later_lines none ∙ later-none)) ∙ c.loop-s.invariant.least
+returns c = grind (arith, nothing-left, later-none)

@@ -1,9 +1,4 @@
-use Rattle.std.proofs.Common.{◌≡◌, length}
-use Rattle.std.specs.List.{prefix_len}
-use Rattle.std.specs.Str.{chars}
-use Rattle.typst_lines.specs.Classes.{in_line}
-use Rattle.typst_lines.specs.Scanner.{place}
-use Rattle.typst_lexer.specs.RawLines.{least_indent, indent, later_lines}
+use Rattle.typst_lexer.proofs.Cited.{◌≡◌, length, prefix_len, chars, in_line, place, least_indent, indent, later_lines}
 use Rattle.typst_lexer.proofs.raw_lines.dedent.Given as goal
 
 abbrev pub invariant-loop-s : goal.invariant-loop-s

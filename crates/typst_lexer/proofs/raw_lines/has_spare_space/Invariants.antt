@@ -1,8 +1,4 @@
-use Rattle.std.proofs.Common.{◌≡◌, length, not, reverse}
-use Rattle.std.specs.Prelude.{find}
-use Rattle.std.specs.Char.{is_whitespace}
-use Rattle.std.specs.Str.{chars}
-use Rattle.typst_lines.specs.Scanner.{place}
+use Rattle.typst_lexer.proofs.Cited.{◌≡◌, length, not, reverse, find, is_whitespace, chars, place}
 use Rattle.typst_lexer.proofs.raw_lines.has_spare_space.Given as goal
 
 abbrev pub invariant-loop-c : goal.invariant-loop-c

@@ -1,8 +1,4 @@
-use Rattle.std.proofs.Common.{◌≡◌, ◌≤◌, ◌+◌, length}
-use Rattle.std.specs.Char.{is_whitespace}
-use Rattle.std.specs.List.{prefix_len}
-use Rattle.std.specs.Str.{chars}
-use Rattle.typst_lines.specs.Scanner.{place}
+use Rattle.typst_lexer.proofs.Cited.{◌≡◌, ◌≤◌, ◌+◌, length, is_whitespace, prefix_len, chars, place}
 use Rattle.typst_lexer.proofs.raw_lines.indent.Given as goal
 
 abbrev pub invariant-loop-s : goal.invariant-loop-s

@@ -1,6 +1,4 @@
-use Rattle.std.proofs.Common.{length}
-use Rattle.std.specs.Str.{chars}
-use Rattle.typst_lines.specs.Scanner.{place}
+use Rattle.typst_lexer.proofs.Cited.{length, chars, place}
 use Rattle.typst_lexer.proofs.Loops.{IsAtRow}
 use denote.Shadow.{shadow}
 use denote.Text.{Utf8}

@@ -1,6 +1,4 @@
-use Rattle.std.proofs.Common.{ap, ◌∙◌}
-use Rattle.std.specs.Str.{chars}
-use Rattle.typst_lines.specs.Scanner.{place}
+use Rattle.typst_lexer.proofs.Cited.{ap, ◌∙◌, chars, place}
 use Rattle.typst_lexer.proofs.Moves.{start-ahead, past-end}
 use Rattle.typst_lexer.proofs.Loops.{inline-is}
 use Rattle.typst_lexer.proofs.raw_lines.push_inline.Goals as goal

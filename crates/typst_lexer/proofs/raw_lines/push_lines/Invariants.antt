@@ -1,5 +1,4 @@
-use Rattle.std.proofs.Common.{◌≡◌, length}
-use Rattle.typst_lines.specs.Scanner.{place}
+use Rattle.typst_lexer.proofs.Cited.{◌≡◌, length, place}
 use Rattle.typst_lexer.proofs.Loops.{IsOnWay}
 use Rattle.typst_lexer.proofs.raw_lines.push_lines.Given as goal
 

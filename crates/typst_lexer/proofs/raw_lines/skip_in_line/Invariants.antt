@@ -1,8 +1,4 @@
-use Rattle.std.proofs.Common.{◌≡◌, ◌-◌, min}
-use Rattle.std.specs.List.{prefix_len}
-use Rattle.typst_lines.specs.Classes.{in_line}
-use Rattle.typst_lines.specs.Place.{moved}
-use Rattle.typst_lines.specs.Scanner.{place}
+use Rattle.typst_lexer.proofs.Cited.{◌≡◌, ◌-◌, min, prefix_len, in_line, moved, place}
 use Rattle.typst_lexer.proofs.raw_lines.skip_in_line.Given as goal
 
 abbrev pub invariant-loop-i : goal.invariant-loop-i

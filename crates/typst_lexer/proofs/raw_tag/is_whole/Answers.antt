@@ -1,5 +1,4 @@
-use Rattle.std.proofs.Common.{refl}
-use Rattle.std.proofs.lemmas.Str.{encodes-chars}
+use Rattle.typst_lexer.proofs.Cited.{refl, encodes-chars}
 use Rattle.typst_lexer.proofs.raw_tag.is_whole.Goals as goal
 
 pub returns-then-not-is_empty : goal.returns-then-not-is_empty

@@ -1,7 +1,4 @@
-use Rattle.std.proofs.Common.{sym, ap, ◌∙◌, ◌+◌, ℕ}
-use Rattle.std.proofs.lemmas.Str.{encodes-chars}
-use Rattle.std.specs.Str.{chars}
-use Rattle.typst_kinds.specs.Span.{Bytes}
+use Rattle.typst_lexer.proofs.Cited.{sym, ap, ◌∙◌, ◌+◌, ℕ, encodes-chars, chars, Bytes}
 use Rattle.typst_lexer.proofs.Tags.{only_tag-is, width-is}
 use Rattle.typst_lexer.proofs.raw_tag.warn_only_tag.Goals as goal
 

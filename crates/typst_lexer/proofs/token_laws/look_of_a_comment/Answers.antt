@@ -1,9 +1,4 @@
-use Rattle.std.proofs.Common.{refl}
-use Rattle.typst_tokens.specs.Common.{whitespace, line_comment, block_comment, line_ends}
-use Rattle.typst_tokens.specs.Markup.{markup, minus, hyphen, emphasis, marker_or_text}
-use Rattle.typst_tokens.specs.Common.{sign}
-use Rattle.typst_tokens.specs.Text.{text, text_from}
-use Rattle.typst_lexer.specs.Tokens.{token, of_mode, hash, slash, star}
+use Rattle.typst_lexer.proofs.Cited.{refl, whitespace, line_comment, block_comment, line_ends, markup, minus, hyphen, emphasis, marker_or_text, sign, text, text_from, token, of_mode, hash, slash, star}
 use Rattle.typst_lexer.proofs.token_laws.look_of_a_comment.Goals as goal
 
 pub returns : goal.returns

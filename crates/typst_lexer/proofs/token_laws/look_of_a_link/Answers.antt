@@ -1,7 +1,5 @@
-use Rattle.std.proofs.Common.{refl}
+use Rattle.typst_lexer.proofs.Cited.{refl, markup, token, of_mode}
 use Rattle.typst_tokens.specs.Link.{link, link_or_text}
-use Rattle.typst_tokens.specs.Markup.{markup}
-use Rattle.typst_lexer.specs.Tokens.{token, of_mode}
 use Rattle.typst_lexer.proofs.token_laws.look_of_a_link.Goals as goal
 
 pub returns : goal.returns

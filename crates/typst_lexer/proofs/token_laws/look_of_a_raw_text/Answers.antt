@@ -1,6 +1,4 @@
-use Rattle.std.proofs.Common.{refl}
-use Rattle.typst_tokens.specs.Raw.{raw}
-use Rattle.typst_lexer.specs.Tokens.{token, backtick}
+use Rattle.typst_lexer.proofs.Cited.{refl, token, backtick, raw}
 use Rattle.typst_lexer.proofs.token_laws.look_of_a_raw_text.Goals as goal
 
 pub returns : goal.returns

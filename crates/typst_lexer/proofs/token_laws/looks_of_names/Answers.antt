@@ -1,9 +1,6 @@
-use Rattle.std.proofs.Common.{refl}
-use Rattle.typst_tokens.specs.Markup.{markup}
+use Rattle.typst_lexer.proofs.Cited.{refl, markup, text, text_from, token, of_mode}
 use Rattle.typst_tokens.specs.Names.{label_or_text, ref_marker, ref_or_text}
 use Rattle.typst_tokens.specs.Labels.{label}
-use Rattle.typst_tokens.specs.Text.{text, text_from}
-use Rattle.typst_lexer.specs.Tokens.{token, of_mode}
 use Rattle.typst_lexer.proofs.token_laws.looks_of_names.Goals as goal
 
 pub returns : goal.returns

@@ -1,5 +1,4 @@
-use Rattle.typst_lexer.specs.Tokens.{token}
-use Rattle.typst_tokens.proofs.Frame.{frame}
+use Rattle.typst_lexer.proofs.Cited.{token, frame}
 use Rattle.typst_lexer.proofs.token_laws.token_frame_law.Goals as goal
 
 pub returns : goal.returns

@@ -1,5 +1,4 @@
-use Rattle.std.proofs.Common.{◌≡◌, ◌≤◌, ◌*◌, ◌-◌, length, take}
-use Rattle.std.specs.List.{sum_by}
+use Rattle.typst_lines.proofs.Cited.{◌≡◌, ◌≤◌, ◌*◌, ◌-◌, length, take, sum_by}
 use Rattle.typst_lines.proofs.blocks.loads_within.Given as goal
 
 abbrev pub invariant-loop-at : goal.invariant-loop-at

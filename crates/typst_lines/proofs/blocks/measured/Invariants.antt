@@ -1,5 +1,4 @@
-use Rattle.std.proofs.Common.{◌≡◌, ◌≤◌, ◌*◌, take}
-use Rattle.std.specs.List.{sum_by}
+use Rattle.typst_lines.proofs.Cited.{◌≡◌, ◌≤◌, ◌*◌, take, sum_by}
 use Rattle.typst_lines.proofs.blocks.measured.Given as goal
 
 abbrev pub invariant-loop-i : goal.invariant-loop-i

@@ -1,6 +1,4 @@
-use Rattle.std.proofs.Common.{ℕ, leb, cond, bit_or, bit_and, refl, arith}
-use Rattle.std.proofs.lemmas.Simd.{length-chunk}
-use lib.Lanes.{chunk}
+use Rattle.typst_lines.proofs.Cited.{ℕ, leb, cond, bit_or, bit_and, refl, arith, length-chunk, chunk}
 use Rattle.typst_lines.proofs.Lanes.{joined, with_splat, onto_splat, plain_front}
 use Rattle.typst_lines.proofs.blocks.plain_lanes.Goals as goal
 

@@ -1,7 +1,4 @@
-use Rattle.std.proofs.Common.{rules, tests}
-use Rattle.std.proofs.lemmas.Iterator.{YieldsList-from_chars, YieldsList-from_take}
-use Rattle.std.proofs.lemmas.Iterator.Search.{all_from_yields_List}
-use Rattle.std.specs.Char.{is_ascii}
+use Rattle.typst_lines.proofs.Cited.{rules, tests, YieldsList-from_chars, YieldsList-from_take, all_from_yields_List, is_ascii}
 use Rattle.typst_lines.proofs.by_unicode.begins_alone.Goals as goal
 
 pub returns : goal.returns

@@ -1,9 +1,4 @@
-use Rattle.std.proofs.Common.{◌≡◌, ℕ, true, List, ◌∷◌, refl, sym, ◌∙◌, rules, tests}
-use Rattle.std.proofs.lemmas.Iterator.{YieldsList-from_chars}
-use Rattle.std.proofs.lemmas.Iterator.Search.{all_from_yields_List}
-use Rattle.std.specs.List.{list_all}
-use Rattle.std.specs.Str.{chars}
-use Rattle.typst_lines.specs.Classes.{CharClasses}
+use Rattle.typst_lines.proofs.Cited.{◌≡◌, ℕ, true, List, ◌∷◌, refl, sym, ◌∙◌, rules, tests, YieldsList-from_chars, all_from_yields_List, list_all, chars, CharClasses}
 use Rattle.typst_lines.specs.Identifiers.{is_ident, is_id_start, is_id_continue}
 use Rattle.typst_lines.proofs.CharsLemmas.{after_first}
 use Rattle.typst_lines.proofs.classes.is_ident.Goals as goal

@@ -1,6 +1,4 @@
-use Rattle.std.proofs.Common.{◌≡◌, length, reverse}
-use Rattle.std.specs.Str.{chars}
-use Rattle.typst_lines.specs.Scanner.{place}
+use Rattle.typst_lines.proofs.Cited.{◌≡◌, length, reverse, chars, place}
 use Rattle.typst_lines.proofs.Trimmed.{stripped}
 use Rattle.typst_lines.proofs.ends.without_last.Given as goal
 

@@ -1,8 +1,4 @@
-use Rattle.std.proofs.Common.{sym, ◌∙◌, rules, tests}
-use Rattle.std.proofs.lemmas.Iterator.{YieldsList-from_chars}
-use Rattle.std.proofs.lemmas.Iterator.Search.{all_from_yields_List}
-use Rattle.std.specs.Str.{chars}
-use Rattle.typst_lines.specs.Labels.{is_name}
+use Rattle.typst_lines.proofs.Cited.{sym, ◌∙◌, rules, tests, YieldsList-from_chars, all_from_yields_List, chars, is_name}
 use Rattle.typst_lines.proofs.Empty.{none-is}
 use Rattle.typst_lines.proofs.Fronts.{label-some, label-none}
 use Rattle.typst_lines.proofs.labels.is_valid_label_literal_id.Goals as goal

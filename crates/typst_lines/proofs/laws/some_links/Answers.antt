@@ -1,5 +1,4 @@
-use Rattle.std.proofs.Common.{refl}
-use Rattle.typst_lines.specs.Links.{link_prefix}
+use Rattle.typst_lines.proofs.Cited.{refl, link_prefix}
 use Rattle.typst_lines.proofs.laws.some_links.Goals as goal
 
 pub returns : goal.returns

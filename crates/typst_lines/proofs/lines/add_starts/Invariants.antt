@@ -1,8 +1,4 @@
-use Rattle.std.proofs.Common.{◌≡◌, ◌++◌, List}
-use Rattle.typst_lines.specs.Lines.{lines_after}
-use Rattle.typst_lines.specs.LinesLeft.{lines_left}
-use Rattle.typst_lines.specs.Pending.{UpTo}
-use Rattle.typst_lines.specs.declared.lines.Line.{Line}
+use Rattle.typst_lines.proofs.Cited.{◌≡◌, ◌++◌, List, lines_after, lines_left, UpTo, Line}
 use Rattle.typst_lines.proofs.lines.add_starts.Given as goal
 
 abbrev pub invariant-loop-line : goal.invariant-loop-line

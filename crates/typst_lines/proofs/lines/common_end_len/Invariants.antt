@@ -1,7 +1,5 @@
-use Rattle.std.proofs.Common.{◌≡◌, length, reverse}
-use Rattle.std.specs.Str.{chars}
+use Rattle.typst_lines.proofs.Cited.{◌≡◌, length, reverse, chars, place}
 use Rattle.typst_lines.proofs.CommonEnds.{Shares}
-use Rattle.typst_lines.specs.Scanner.{place}
 use Rattle.typst_lines.proofs.lines.common_end_len.Given as goal
 
 abbrev pub invariant-loop-c : goal.invariant-loop-c

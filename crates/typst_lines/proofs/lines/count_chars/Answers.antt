@@ -1,7 +1,5 @@
-use Rattle.std.proofs.Common.{◌∙◌, ap}
-use Rattle.std.specs.List.{sum_by}
+use Rattle.typst_lines.proofs.Cited.{◌∙◌, ap, sum_by, chars_begun}
 use Rattle.typst_lines.proofs.Counts.{chars-counted}
-use Rattle.typst_lines.specs.Blocks.{chars_begun}
 use Rattle.typst_lines.proofs.lines.count_chars.Goals as goal
 
 pub returns : goal.returns

@@ -1,7 +1,5 @@
-use Rattle.std.proofs.Common.{◌∙◌, ap}
-use Rattle.std.specs.List.{sum_by}
+use Rattle.typst_lines.proofs.Cited.{◌∙◌, ap, sum_by, units_begun}
 use Rattle.typst_lines.proofs.Counts.{units-counted}
-use Rattle.typst_lines.specs.Blocks.{units_begun}
 use Rattle.typst_lines.proofs.lines.len_utf16.Goals as goal
 
 pub returns : goal.returns

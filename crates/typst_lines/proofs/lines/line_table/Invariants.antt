@@ -1,6 +1,4 @@
-use Rattle.std.proofs.Common.{◌≡◌, ◌++◌}
-use Rattle.typst_lines.specs.Lines.{line_table}
-use Rattle.typst_lines.specs.LinesLeft.{lines_left}
+use Rattle.typst_lines.proofs.Cited.{◌≡◌, ◌++◌, line_table, lines_left}
 use Rattle.typst_lines.proofs.lines.line_table.Given as goal
 
 abbrev pub invariant-loop-line : goal.invariant-loop-line

@@ -1,6 +1,4 @@
-use Rattle.std.proofs.Common.{◌≡◌, ◌+◌, ◌++◌, map, take, drop, subst, sym, arith}
-use Rattle.std.proofs.Math.ListN.{set}
-use Rattle.typst_lines.specs.Edited.{moved_line, units_at}
+use Rattle.typst_lines.proofs.Cited.{◌≡◌, ◌+◌, ◌++◌, map, take, drop, subst, sym, arith, moved_line, units_at, set}
 use Rattle.typst_lines.proofs.Settled.{written}
 use Rattle.typst_lines.proofs.lines.move_lines.Goals as goal
 

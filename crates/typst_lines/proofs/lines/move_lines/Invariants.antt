@@ -1,5 +1,4 @@
-use Rattle.std.proofs.Common.{◌≡◌, ◌++◌, map, take, drop}
-use Rattle.typst_lines.specs.Edited.{moved_line, units_at}
+use Rattle.typst_lines.proofs.Cited.{◌≡◌, ◌++◌, map, take, drop, moved_line, units_at}
 use Rattle.typst_lines.proofs.lines.move_lines.Given as goal
 
 abbrev pub invariant-loop-line : goal.invariant-loop-line

@@ -1,10 +1,6 @@
-use Rattle.std.proofs.Common.{◌≡◌, ◌+◌, ap, subst, arith, refl, length, get_or}
-use Rattle.typst_lines.proofs.LinesFromLaw.{plain-step, plain-block, plain-start}
-use Rattle.typst_lines.specs.Lines.{IsPlainRun}
+use Rattle.typst_lines.proofs.Cited.{◌≡◌, ◌+◌, ap, subst, arith, refl, length, get_or, IsPlainRun}
+use Rattle.typst_lines.proofs.LinesFromLaw.{plain-step, plain-block}
 use Rattle.typst_lines.proofs.lines.plain_end.Goals as goal
-
-pub loop-at-init : goal.loop-at-init
-loop-at-init c = plain-start c.args.text.now c.args.start c.requires
 
 pub loop-at-preserved : goal.loop-at-preserved
 loop-at-preserved c =

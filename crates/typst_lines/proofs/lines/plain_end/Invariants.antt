@@ -1,5 +1,4 @@
-use Rattle.std.proofs.Common.{◌-◌, length}
-use Rattle.typst_lines.specs.Lines.{IsPlainRun}
+use Rattle.typst_lines.proofs.Cited.{◌-◌, length, IsPlainRun}
 use Rattle.typst_lines.proofs.lines.plain_end.Given as goal
 
 abbrev pub invariant-loop-at : goal.invariant-loop-at

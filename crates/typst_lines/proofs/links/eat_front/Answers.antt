@@ -1,5 +1,4 @@
-use Rattle.std.proofs.Common.{◌==◌, Some, None, length, ap, ◌∙◌, if◌then◌else◌}
-use Rattle.typst_lines.specs.Scanner.{place}
+use Rattle.typst_lines.proofs.Cited.{◌==◌, Some, None, length, ap, ◌∙◌, if◌then◌else◌, arith, place}
 use Rattle.typst_lines.proofs.Fronts.{left-step, left-stop, left-end}
 use Rattle.typst_lines.proofs.links.eat_front.Goals as goal
 
@@ -10,14 +9,10 @@ loop-c-preserved c = record {
 }
 
 pub returns-then-not-branch-clause-front : goal.returns-then-not-branch-clause-front
-returns-then-not-branch-clause-front c =
-    (left-stop c.loop-c.brackets (place c.loop-c.s) (place c.args.s.now) c.in-Some.c c.loop-c.invariant.left c.in-Some.ensures (c.in_ok-pass.ensures.turn ∙ ap (λ b. if b then Some c.pass.new.self else None) c.if-not-branch.true)).0
+returns-then-not-branch-clause-front c = grind (arith, left-stop)
 
 pub returns-then-not-branch-clause-balanced : goal.returns-then-not-branch-clause-balanced
-returns-then-not-branch-clause-balanced c =
-    let same = rw c.if-not-branch.true at c.in_ok-pass.ensures.same in
-    c.is_empty.ensures
-    ∙ ap (λ x. length x == 0) (same ∙ (left-stop c.loop-c.brackets (place c.loop-c.s) (place c.args.s.now) c.in-Some.c c.loop-c.invariant.left c.in-Some.ensures (c.in_ok-pass.ensures.turn ∙ ap (λ b. if b then Some c.pass.new.self else None) c.if-not-branch.true)).1)
+returns-then-not-branch-clause-balanced c = grind (arith, left-stop)
 
 pub returns-clause-front : goal.returns-clause-front
 returns-clause-front c = (left-end c.loop-c.brackets (place c.loop-c.s) (place c.args.s.now) c.loop-c.invariant.left c.in_default.ensures).0

@@ -1,5 +1,4 @@
-use Rattle.std.proofs.Common.{◌≡◌, length}
-use Rattle.typst_lines.specs.Scanner.{place}
+use Rattle.typst_lines.proofs.Cited.{◌≡◌, length, place}
 use Rattle.typst_lines.proofs.Fronts.{Left}
 use Rattle.typst_lines.proofs.links.eat_front.Given as goal
 

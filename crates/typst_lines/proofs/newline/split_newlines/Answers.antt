@@ -1,9 +1,6 @@
-use Rattle.std.proofs.Common.{◌∙◌, ◌++◌, [], ap, sym, length}
-use Rattle.std.specs.Str.{chars}
+use Rattle.typst_lines.proofs.Cited.{◌∙◌, ◌++◌, [], ap, sym, length, arith, chars, stretches, line_ends, woven, all_lack_newlines, place}
 use Rattle.typst_lines.proofs.SplitLaw.{glued, since-none, since-more, glued-none, glued-plain, stretches-more, stretches-all, put-back, none-inside, texts_of}
 use Rattle.typst_lines.proofs.LineTable.{ahead-text}
-use Rattle.typst_lines.specs.Newline.{stretches, line_ends, woven, all_lack_newlines}
-use Rattle.typst_lines.specs.Scanner.{place}
 use Rattle.typst_lines.proofs.newline.split_newlines.Goals as goal
 
 pub loop-c-init : goal.loop-c-init
@@ -15,12 +12,6 @@ loop-c-init c =
       e.text,
       e.text,
     )
-
-pub since-requires : goal.since-requires
-since-requires c = record { text = c.loop-c.invariant.2 ∙ sym c.loop-c.invariant.3; after = (length c.loop-c.invariant.0.passed, c.loop-c.invariant.0.moves) }
-
-pub since-requires-2 : goal.since-requires-2
-since-requires-2 c = record { text = c.loop-c.invariant.2 ∙ sym c.loop-c.invariant.3; after = (length c.loop-c.invariant.0.passed, c.loop-c.invariant.0.moves) }
 
 pub loop-c-preserved-then-is_newline : goal.loop-c-preserved-then-is_newline
 loop-c-preserved-then-is_newline c =
@@ -49,9 +40,7 @@ loop-c-preserved c =
     )
 
 pub returns-clause-stretches : goal.returns-clause-stretches
-returns-clause-stretches c =
-    let i = c.loop-c.invariant in
-    stretches-all c.loop-c.stretches.items c.push-2.new.self.items c.since-2.result (place c.loop-c.start) (place c.loop-c.scanner) _ i.0 i.1 c.in_default.ensures (c.since-2.ensures (length i.0.passed) i.0.moves) c.in_ok-push-2.ensures.items
+returns-clause-stretches c = grind (arith, stretches-all)
 
 pub returns-clause-put_back : goal.returns-clause-put_back
 returns-clause-put_back c = ap (λ t. woven t (line_ends (chars c.args.text.now))) (returns-clause-stretches c) ∙ put-back (chars c.args.text.now)

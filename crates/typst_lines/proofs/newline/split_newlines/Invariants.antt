@@ -1,8 +1,5 @@
-use Rattle.std.proofs.Common.{◌≡◌, ◌++◌, length, map}
-use Rattle.std.specs.Str.{chars}
+use Rattle.typst_lines.proofs.Cited.{◌≡◌, ◌++◌, length, map, chars, stretches, place}
 use Rattle.typst_lines.proofs.SplitLaw.{Since, glued}
-use Rattle.typst_lines.specs.Newline.{stretches}
-use Rattle.typst_lines.specs.Scanner.{place}
 use Rattle.typst_lines.proofs.newline.split_newlines.Given as goal
 
 abbrev pub invariant-loop-c : goal.invariant-loop-c

@@ -1,6 +1,4 @@
-use Rattle.std.proofs.Common.{◌++◌, sym, ap, ◌∙◌}
-use Rattle.std.proofs.lemmas.List.{nil_from_length}
-use Rattle.std.specs.Prelude.{encode_utf8}
+use Rattle.typst_lines.proofs.Cited.{◌++◌, sym, ap, ◌∙◌, nil_from_length, encode_utf8}
 use Rattle.typst_lines.proofs.PlaceLemmas.{IsStep-from_front, IsFirst-from_nothing, front-range}
 use Rattle.typst_lines.proofs.scanner.char_before.Goals as goal
 

@@ -1,7 +1,4 @@
-use Rattle.std.proofs.Common.{◌≡◌, ◌-◌, length}
-use Rattle.typst_lines.specs.Place.{place_at, past}
-use Rattle.std.specs.Str.{IsCharBoundary}
-use Rattle.std.proofs.Common.{◌≤◌}
+use Rattle.typst_lines.proofs.Cited.{◌≡◌, ◌-◌, length, place_at, past, IsCharBoundary, ◌≤◌}
 use Rattle.typst_lines.proofs.scanner.run_end.Given as goal
 
 abbrev pub invariant-loop-c : goal.invariant-loop-c

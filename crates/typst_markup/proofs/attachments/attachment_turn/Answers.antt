@@ -1,7 +1,4 @@
-use Rattle.std.proofs.Common.{ap, sym, ◌∙◌}
-use Rattle.typst_language.proofs.Steps.{does-next, does-gives}
-use Rattle.typst_language.proofs.Asks.{asks-yes, asks-no}
-use Rattle.typst_markup.specs.Attachments.{attachment_turn, is_in, without}
+use Rattle.typst_markup.proofs.Cited.{ap, sym, ◌∙◌, does-next, does-gives, asks-yes, asks-no, attachment_turn, is_in, without}
 use Rattle.typst_markup.proofs.attachments.attachment_turn.Goals as goal
 
 pub returns-then-not-is_in : goal.returns-then-not-is_in

@@ -1,8 +1,4 @@
-use Rattle.typst_language.specs.Meaning.{Level}
-use Rattle.typst_markup.specs.Attachments.{attachment_turn, both_signs}
-use Rattle.typst_language.specs.Bytes.{bytes_left}
-use Rattle.typst_language.specs.View.{Fills}
-use Rattle.typst_language.proofs.Steps.{Turning}
+use Rattle.typst_markup.proofs.Cited.{Level, attachment_turn, both_signs, bytes_left, Fills, Turning}
 use Rattle.typst_markup.proofs.attachments.attachment_turns.Given as goal
 
 abbrev pub invariant-turns : goal.invariant-turns

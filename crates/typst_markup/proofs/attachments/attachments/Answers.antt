@@ -1,5 +1,4 @@
-use Rattle.typst_language.proofs.Steps.{does-next, does-gives}
-use Rattle.typst_markup.specs.Attachments.{attachments}
+use Rattle.typst_markup.proofs.Cited.{does-next, does-gives, attachments}
 use Rattle.typst_markup.proofs.attachments.attachments.Goals as goal
 
 pub returns : goal.returns

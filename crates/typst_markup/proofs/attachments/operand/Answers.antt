@@ -1,8 +1,4 @@
-use Rattle.std.proofs.Common.{refl}
-use Rattle.typst_language.specs.Shape.NodeChange.{unparened}
-use Rattle.typst_language.specs.Shape.Shape.{keeps}
-use Rattle.typst_language.proofs.Steps.{does-node}
-use Rattle.typst_markup.specs.Attachments.{operand}
+use Rattle.typst_markup.proofs.Cited.{refl, keeps, does-node, operand, unparened}
 use Rattle.typst_markup.proofs.attachments.operand.Goals as goal
 
 pub returns : goal.returns

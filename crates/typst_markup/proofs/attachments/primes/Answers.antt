@@ -1,6 +1,4 @@
-use Rattle.typst_language.proofs.Steps.{does-next, does-gives}
-use Rattle.typst_language.proofs.Asks.{asks-yes, asks-no}
-use Rattle.typst_markup.specs.Attachments.{primes, is_in}
+use Rattle.typst_markup.proofs.Cited.{does-next, does-gives, asks-yes, asks-no, primes, is_in}
 use Rattle.typst_markup.proofs.attachments.primes.Goals as goal
 
 pub returns-then-is_in : goal.returns-then-is_in

@@ -1,5 +1,4 @@
-use Rattle.typst_language.proofs.Steps.{does-next, does-gives, does-node}
-use Rattle.typst_markup.specs.Delimited.{delimited, delimited_shape}
+use Rattle.typst_markup.proofs.Cited.{does-next, does-gives, does-node, delimited, delimited_shape}
 use Rattle.typst_markup.proofs.delimited.delimited.Goals as goal
 
 pub returns : goal.returns

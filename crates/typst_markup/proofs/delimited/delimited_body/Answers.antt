@@ -1,8 +1,4 @@
-use Rattle.std.proofs.Common.{ap, ◌∙◌}
-use Rattle.typst_language.proofs.Steps.{does-next, does-gives, does-node, does-peek}
-use Rattle.typst_markup.specs.Equations.{is_closer}
-use Rattle.typst_language.proofs.Values.{does-value}
-use Rattle.typst_markup.specs.Delimited.{delimited_body, body_shape}
+use Rattle.typst_markup.proofs.Cited.{ap, ◌∙◌, does-next, does-gives, does-node, does-peek, is_closer, does-value, delimited_body, body_shape}
 use Rattle.typst_markup.proofs.delimited.delimited_body.Goals as goal
 
 pub returns : goal.returns

@@ -1,7 +1,4 @@
-use Rattle.typst_language.specs.Shape.NodeChange.{renamed}
-use Rattle.typst_language.specs.Shape.Shape.{keeps}
-use Rattle.typst_language.proofs.Steps.{does-next, does-gives, does-node}
-use Rattle.typst_markup.specs.Delimited.{delimiter}
+use Rattle.typst_markup.proofs.Cited.{renamed, keeps, does-next, does-gives, does-node, delimiter}
 use Rattle.typst_markup.proofs.delimited.delimiter.Goals as goal
 
 pub returns : goal.returns

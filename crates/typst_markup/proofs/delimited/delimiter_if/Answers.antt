@@ -1,5 +1,4 @@
-use Rattle.typst_language.proofs.Steps.{does-gives, does-pick, does-other}
-use Rattle.typst_markup.specs.Delimited.{delimiter_if}
+use Rattle.typst_markup.proofs.Cited.{does-gives, does-pick, does-other, delimiter_if}
 use Rattle.typst_markup.proofs.delimited.delimiter_if.Goals as goal
 
 pub returns-in_ok-delimiter : goal.returns-in_ok-delimiter

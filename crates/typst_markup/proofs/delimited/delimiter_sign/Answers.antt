@@ -1,9 +1,4 @@
-use Rattle.std.proofs.Common.{ap, ◌∙◌, map}
-use Rattle.typst_language.specs.Shape.{seen}
-use Rattle.typst_language.proofs.Changes.{does-seeing}
-use Rattle.typst_language.proofs.Steps.{does-next, does-gives}
-use Rattle.typst_language.proofs.Values.{does-value}
-use Rattle.typst_markup.specs.Delimited.{delimiter_sign, delimiter_kind}
+use Rattle.typst_markup.proofs.Cited.{ap, ◌∙◌, map, seen, does-seeing, does-next, does-gives, does-value, delimiter_sign, delimiter_kind}
 use Rattle.typst_markup.proofs.delimited.delimiter_sign.Goals as goal
 
 pub returns-clause-means : goal.returns-clause-means

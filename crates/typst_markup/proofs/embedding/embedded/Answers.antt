@@ -1,6 +1,4 @@
-use Rattle.typst_markup.specs.Embedded.{embedded, embedded_reading}
-use Rattle.typst_language.proofs.Steps.{does-next}
-use Rattle.typst_language.proofs.Values.{does-entered}
+use Rattle.typst_markup.proofs.Cited.{embedded, embedded_reading, does-next, does-entered}
 use Rattle.typst_markup.proofs.embedding.embedded.Goals as goal
 
 pub returns : goal.returns

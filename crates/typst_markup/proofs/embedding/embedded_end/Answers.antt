@@ -1,7 +1,4 @@
-use Rattle.std.proofs.Common.{◌∙◌, sym}
-use Rattle.typst_markup.specs.Embedded.{embedded_end, takes_semicolon, is_followed}
-use Rattle.typst_language.proofs.Steps.{does-next, does-peek, does-pick, does-other, does-gives}
-use Rattle.typst_language.proofs.Asks.{found}
+use Rattle.typst_markup.proofs.Cited.{◌∙◌, sym, embedded_end, takes_semicolon, is_followed, does-next, does-peek, does-pick, does-other, does-gives, found}
 use Rattle.typst_markup.proofs.embedding.embedded_end.Goals as goal
 
 pub returns-then-takes_semicolon : goal.returns-then-takes_semicolon

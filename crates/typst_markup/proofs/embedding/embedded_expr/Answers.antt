@@ -1,7 +1,5 @@
-use Rattle.std.proofs.Common.{◌∙◌, ap, refl, sym}
-use Rattle.typst_markup.specs.Embedded.{embedded_expr, is_bare}
+use Rattle.typst_markup.proofs.Cited.{◌∙◌, ap, refl, sym, embedded_expr, is_bare, does-next, does-peek, does-pick, does-other}
 use Rattle.typst_markup.specs.Starts.{begins_statement}
-use Rattle.typst_language.proofs.Steps.{does-next, does-peek, does-pick, does-other}
 use Rattle.typst_markup.proofs.embedding.embedded_expr.Goals as goal
 
 pub returns-then-is_bare : goal.returns-then-is_bare

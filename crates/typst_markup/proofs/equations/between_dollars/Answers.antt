@@ -1,11 +1,5 @@
-use Rattle.std.proofs.Common.{refl, true, false}
-use Rattle.typst_kinds.specs.Kinds.{same}
+use Rattle.typst_markup.proofs.Cited.{refl, true, false, same, does-next, does-gives, does-closed, between_dollars, math_reading, asks-yes, asks-no, does-entered, close_if}
 use Rattle.typst_kinds.specs.declared.kind.SyntaxKind.TheVariants as kind
-use Rattle.typst_language.specs.Steps.{close_if}
-use Rattle.typst_language.proofs.Steps.{does-next, does-gives, does-closed}
-use Rattle.typst_markup.specs.Equations.{between_dollars, math_reading}
-use Rattle.typst_language.proofs.Asks.{asks-yes, asks-no}
-use Rattle.typst_language.proofs.Values.{does-entered}
 use Rattle.typst_language.proofs.Nots.{is-not, is-so}
 use Rattle.typst_markup.proofs.equations.between_dollars.Goals as goal
 

@@ -1,7 +1,5 @@
 use Rattle.typst_kinds.specs.declared.kind.SyntaxKind.TheVariants as kind
-use Rattle.typst_language.specs.Shape.{encloses}
-use Rattle.typst_language.proofs.Steps.{does-next, does-gives, does-node}
-use Rattle.typst_markup.specs.Equations.{equation}
+use Rattle.typst_markup.proofs.Cited.{encloses, does-next, does-gives, does-node, equation}
 use Rattle.typst_markup.proofs.equations.equation.Goals as goal
 
 pub returns : goal.returns

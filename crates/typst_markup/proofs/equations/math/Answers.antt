@@ -1,7 +1,5 @@
 use Rattle.typst_kinds.specs.declared.kind.SyntaxKind.TheVariants as kind
-use Rattle.typst_language.specs.Shape.{becomes}
-use Rattle.typst_language.proofs.Steps.{does-next, does-gives, does-node}
-use Rattle.typst_markup.specs.Equations.{math}
+use Rattle.typst_markup.proofs.Cited.{becomes, does-next, does-gives, does-node, math}
 use Rattle.typst_markup.proofs.equations.math.Goals as goal
 
 pub returns : goal.returns

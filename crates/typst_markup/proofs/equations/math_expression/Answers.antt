@@ -1,5 +1,4 @@
-use Rattle.std.proofs.Common.{refl, sym}
-use Rattle.typst_markup.specs.Equations.{math_expression}
+use Rattle.typst_markup.proofs.Cited.{refl, sym, math_expression}
 use Rattle.typst_markup.proofs.equations.math_expression.Goals as goal
 
 pub returns : goal.returns

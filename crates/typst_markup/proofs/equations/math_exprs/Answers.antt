@@ -1,7 +1,4 @@
-use Rattle.std.proofs.Common.{◌==◌, ◌∙◌, ap, sym}
-use Rattle.std.proofs.lemmas.Bool.{ne_eqb}
-use Rattle.typst_markup.specs.Equations.{math_exprs}
-use Rattle.typst_language.proofs.Steps.{does-next, does-gives, does-pick, does-other, does-deepest}
+use Rattle.typst_markup.proofs.Cited.{◌==◌, ◌∙◌, ap, sym, ne_eqb, math_exprs, does-next, does-gives, does-pick, does-other, does-deepest}
 use Rattle.typst_markup.proofs.equations.math_exprs.Goals as goal
 
 pub returns-then-levels-eq0 : goal.returns-then-levels-eq0

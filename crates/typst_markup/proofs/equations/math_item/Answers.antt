@@ -1,7 +1,5 @@
-use Rattle.typst_kinds.specs.Kinds.{among}
+use Rattle.typst_markup.proofs.Cited.{among, math_item, asks-yes, asks-no}
 use Rattle.typst_kinds.specs.Sets.{math_expr as begins}
-use Rattle.typst_markup.specs.Equations.{math_item}
-use Rattle.typst_language.proofs.Asks.{asks-yes, asks-no}
 use Rattle.typst_markup.proofs.equations.math_item.Goals as goal
 
 pub returns-then-begins_math : goal.returns-then-begins_math

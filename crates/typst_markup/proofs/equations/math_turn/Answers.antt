@@ -1,9 +1,4 @@
-use Rattle.std.proofs.Common.{ap, true}
-use Rattle.typst_language.proofs.Steps.{does-next, does-gives}
-use Rattle.typst_markup.specs.Equations.{math_turn}
-use Rattle.typst_markup.specs.Stops.{math_stops_at}
-use Rattle.typst_language.proofs.Asks.{asks-yes, asks-no}
-use Rattle.typst_language.proofs.Values.{does-value}
+use Rattle.typst_markup.proofs.Cited.{ap, true, does-next, does-gives, math_turn, math_stops_at, asks-yes, asks-no, does-value}
 use Rattle.typst_markup.proofs.equations.math_turn.Goals as goal
 
 pub returns-then-has : goal.returns-then-has

@@ -1,9 +1,4 @@
-use Rattle.typst_language.specs.Meaning.{Level}
-use Rattle.typst_markup.specs.Equations.{math_turn}
-use Rattle.typst_markup.specs.Stops.{math_stops_at}
-use Rattle.typst_language.specs.Bytes.{bytes_left}
-use Rattle.typst_language.specs.View.{Fills}
-use Rattle.typst_language.proofs.Steps.{Turning}
+use Rattle.typst_markup.proofs.Cited.{Level, math_turn, math_stops_at, bytes_left, Fills, Turning}
 use Rattle.typst_markup.proofs.equations.math_turns.Given as goal
 
 abbrev pub invariant-turns : goal.invariant-turns

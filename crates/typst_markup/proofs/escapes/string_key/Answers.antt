@@ -1,17 +1,11 @@
-use Rattle.std.proofs.Common.{◌++◌, ap, ◌∙◌, sym, append_assoc}
-use Rattle.std.specs.String.{string_bytes}
-use Rattle.typst_lines.specs.Scanner.{place}
+use Rattle.typst_markup.proofs.Cited.{◌++◌, ap, ◌∙◌, sym, append_assoc, arith, place, escape, escaped, unescaped, string_key, string_bytes}
 use Rattle.typst_lines.proofs.LineTable.{ahead-text}
-use Rattle.typst_markup.specs.Keys.{escape, escaped, unescaped, string_key}
 use Rattle.typst_markup.proofs.Backslashes.{shorter, unescaped-at}
 use Rattle.typst_markup.proofs.escapes.string_key.Goals as goal
 
 pub loop-c-init : goal.loop-c-init
 unfolding string_key
-loop-c-init c =
-    ap (λ t. t ++ unescaped 0 (place c.new-s.result).ahead) c.new-key.ensures.bytes
-    ∙ ap (λ p. unescaped 0 p.ahead) c.new-s.ensures.place
-    ∙ ap (unescaped 0) (ahead-text c.unquoted.result.now ∙ c.unquoted.ensures)
+loop-c-init c = grind (arith, ahead-text)
 
 pub loop-c-smaller : goal.loop-c-smaller
 loop-c-smaller c = shorter _ c.in-Some.c (place c.loop-c.s) (place c.eat.new.self) (place c.read_escape.new.s) c.in-Some.ensures.next c.in-Some.ensures.moved c.read_escape.ensures.moved

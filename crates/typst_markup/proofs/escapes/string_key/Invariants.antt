@@ -1,7 +1,4 @@
-use Rattle.std.proofs.Common.{◌≡◌, ◌++◌, length}
-use Rattle.std.specs.String.{string_bytes}
-use Rattle.typst_lines.specs.Scanner.{place}
-use Rattle.typst_markup.specs.Keys.{unescaped, string_key}
+use Rattle.typst_markup.proofs.Cited.{◌≡◌, ◌++◌, length, place, unescaped, string_key, string_bytes}
 use Rattle.typst_markup.proofs.escapes.string_key.Given as goal
 
 abbrev pub invariant-loop-c : goal.invariant-loop-c

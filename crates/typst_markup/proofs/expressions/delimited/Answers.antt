@@ -1,9 +1,6 @@
-use Rattle.std.proofs.Common.{◌∙◌, ap}
-use Rattle.typst_kinds.specs.Kinds.{same}
+use Rattle.typst_markup.proofs.Cited.{◌∙◌, ap, same, does-next, does-gives, does-node, does-entered}
 use Rattle.typst_language.specs.declared.reading.AtNewline.TheVariants as newline
 use Rattle.typst_markup.specs.Markup.{delimited, at_newline, emphasized}
-use Rattle.typst_language.proofs.Steps.{does-next, does-gives, does-node}
-use Rattle.typst_language.proofs.Values.{does-entered}
 use Rattle.typst_markup.proofs.expressions.delimited.Goals as goal
 
 pub returns : goal.returns

@@ -1,9 +1,6 @@
 use Rattle.typst_kinds.specs.declared.kind.SyntaxKind.TheVariants as kind
-use Rattle.typst_language.specs.Shape.{becomes}
+use Rattle.typst_markup.proofs.Cited.{becomes, heading, at_newline, does-next, does-node, does-entered}
 use Rattle.typst_language.specs.declared.reading.AtNewline.TheVariants as newline
-use Rattle.typst_markup.specs.Markup.{heading, at_newline}
-use Rattle.typst_language.proofs.Steps.{does-next, does-node}
-use Rattle.typst_language.proofs.Values.{does-entered}
 use Rattle.typst_markup.proofs.expressions.heading.Goals as goal
 
 pub returns : goal.returns

@@ -1,8 +1,5 @@
-use Rattle.typst_language.specs.Shape.{becomes}
+use Rattle.typst_markup.proofs.Cited.{becomes, item, at_newline, does-next, does-node, does-entered}
 use Rattle.typst_language.specs.declared.reading.AtNewline.TheVariants as newline
-use Rattle.typst_markup.specs.Markup.{item, at_newline}
-use Rattle.typst_language.proofs.Steps.{does-next, does-node}
-use Rattle.typst_language.proofs.Values.{does-entered}
 use Rattle.typst_markup.proofs.expressions.item.Goals as goal
 
 pub returns : goal.returns

@@ -1,9 +1,6 @@
-use Rattle.std.proofs.Common.{sym, ap, ◌∙◌}
-use Rattle.typst_markup.specs.Markup.{markup_expr, markup_head}
+use Rattle.typst_markup.proofs.Cited.{sym, ap, ◌∙◌, markup_expr, markup_head, does-value, does-next, does-gives, does-peek}
 use Rattle.typst_markup.specs.declared.head.MarkupHead.TheVariants as head
 use Rattle.typst_markup.proofs.MarkupHeads.{at-head}
-use Rattle.typst_language.proofs.Values.{does-value}
-use Rattle.typst_language.proofs.Steps.{does-next, does-gives, does-peek}
 use Rattle.typst_markup.proofs.expressions.markup_expr.Goals as goal
 
 pub returns-in_ok-eat-in-Itself : goal.returns-in_ok-eat-in-Itself

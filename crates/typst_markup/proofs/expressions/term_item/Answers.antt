@@ -1,11 +1,6 @@
-use Rattle.std.proofs.Common.{◌∙◌, ap}
-use Rattle.typst_kinds.specs.Kinds.{same}
+use Rattle.typst_markup.proofs.Cited.{◌∙◌, ap, same, becomes, term_item, at_newline, does-next, does-node, does-entered}
 use Rattle.typst_kinds.specs.declared.kind.SyntaxKind.TheVariants as kind
-use Rattle.typst_language.specs.Shape.{becomes}
 use Rattle.typst_language.specs.declared.reading.AtNewline.TheVariants as newline
-use Rattle.typst_markup.specs.Markup.{term_item, at_newline}
-use Rattle.typst_language.proofs.Steps.{does-next, does-node}
-use Rattle.typst_language.proofs.Values.{does-entered}
 use Rattle.typst_markup.proofs.expressions.term_item.Goals as goal
 
 pub returns : goal.returns

@@ -1,7 +1,6 @@
-use Rattle.std.proofs.Common.{sym, ap, ◌∙◌, rules, tests}
+use Rattle.typst_markup.proofs.Cited.{sym, ap, ◌∙◌, rules, tests, is_alphabetic}
 use Rattle.std.proofs.lemmas.Iterator.{YieldsList-from_chars}
 use Rattle.std.proofs.lemmas.Iterator.Search.{all_from_yields_List}
-use Rattle.typst_markup.specs.MathExpressions.{is_alphabetic}
 use Rattle.typst_markup.proofs.Letters.{none-letters, one-letter, one-by-class, all-letters}
 use Rattle.typst_markup.proofs.formulas.are_letters.Goals as goal
 

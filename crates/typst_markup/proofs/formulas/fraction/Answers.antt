@@ -1,6 +1,4 @@
-use Rattle.std.proofs.Common.{sym}
-use Rattle.typst_language.proofs.Steps.{does-next}
-use Rattle.typst_markup.specs.MathExpressions.{fraction}
+use Rattle.typst_markup.proofs.Cited.{sym, does-next, fraction}
 use Rattle.typst_markup.proofs.formulas.fraction.Goals as goal
 
 pub returns : goal.returns

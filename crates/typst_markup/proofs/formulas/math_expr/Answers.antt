@@ -1,5 +1,4 @@
-use Rattle.typst_language.proofs.Steps.{does-next, does-gives}
-use Rattle.typst_markup.specs.MathExpressions.{math_expr}
+use Rattle.typst_markup.proofs.Cited.{does-next, does-gives, math_expr}
 use Rattle.typst_markup.proofs.formulas.math_expr.Goals as goal
 
 pub returns : goal.returns

@@ -1,6 +1,4 @@
-use Rattle.std.proofs.Common.{refl, arith}
-use Rattle.typst_language.proofs.Grows.{grows-init, grows-next, grows-stuck, grows-last}
-use Rattle.typst_markup.specs.MathExpressions.{math_grown}
+use Rattle.typst_markup.proofs.Cited.{refl, arith, math_grown, grows-init, grows-next, grows-stuck, grows-last}
 use Rattle.typst_markup.proofs.formulas.math_grown.Goals as goal
 
 pub turns-init : goal.turns-init

@@ -1,8 +1,4 @@
-use Rattle.typst_language.specs.Meaning.{Level}
-use Rattle.typst_language.specs.Bytes.{bytes_left}
-use Rattle.typst_language.specs.View.{Fills}
-use Rattle.typst_language.proofs.Grows.{Grows}
-use Rattle.typst_markup.specs.MathExpressions.{math_primary, math_tail_turn}
+use Rattle.typst_markup.proofs.Cited.{Level, bytes_left, Fills, math_primary, math_tail_turn, Grows}
 use Rattle.typst_markup.proofs.formulas.math_grown.Given as goal
 
 abbrev pub invariant-turns : goal.invariant-turns

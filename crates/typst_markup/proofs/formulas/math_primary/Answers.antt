@@ -1,6 +1,4 @@
-use Rattle.std.proofs.Common.{sym, ap, ◌∙◌}
-use Rattle.typst_language.proofs.Steps.{does-next, does-gives, does-peek}
-use Rattle.typst_markup.specs.MathExpressions.{math_primary, math_head}
+use Rattle.typst_markup.proofs.Cited.{sym, ap, ◌∙◌, does-next, does-gives, does-peek, math_primary, math_head}
 use Rattle.typst_markup.specs.declared.math_heads.MathHead.TheVariants as head
 use Rattle.typst_markup.proofs.Begins.{at-head}
 use Rattle.typst_markup.proofs.formulas.math_primary.Goals as goal

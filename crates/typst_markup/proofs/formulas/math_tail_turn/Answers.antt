@@ -1,7 +1,5 @@
-use Rattle.std.proofs.Common.{sym, ap, ◌∙◌}
+use Rattle.typst_markup.proofs.Cited.{sym, ap, ◌∙◌, does-next, does-peek, does-gives, math_tail_turn, math_tail}
 use Rattle.typst_language.specs.Hand.{as_at_hand}
-use Rattle.typst_language.proofs.Steps.{does-next, does-peek, does-gives}
-use Rattle.typst_markup.specs.MathExpressions.{math_tail_turn, math_tail}
 use Rattle.typst_markup.specs.declared.math_heads.MathTail.TheVariants as tail
 use Rattle.typst_markup.proofs.Begins.{at-tail}
 use Rattle.typst_markup.proofs.formulas.math_tail_turn.Goals as goal

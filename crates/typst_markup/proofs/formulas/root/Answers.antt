@@ -1,8 +1,5 @@
-use Rattle.std.proofs.Common.{sym}
+use Rattle.typst_markup.proofs.Cited.{sym, becomes, does-next, does-node, root}
 use Rattle.typst_kinds.specs.declared.kind.SyntaxKind.TheVariants as kind
-use Rattle.typst_language.specs.Shape.{becomes}
-use Rattle.typst_language.proofs.Steps.{does-next, does-node}
-use Rattle.typst_markup.specs.MathExpressions.{root}
 use Rattle.typst_markup.proofs.formulas.root.Goals as goal
 
 pub returns : goal.returns

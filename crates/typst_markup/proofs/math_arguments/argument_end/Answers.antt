@@ -1,7 +1,4 @@
-use Rattle.typst_language.proofs.Steps.{does-gives, does-pick, does-other}
-use Rattle.typst_markup.specs.Equations.{separates, ends_list}
-use Rattle.typst_language.proofs.Asks.{found, asks-yes, asks-no}
-use Rattle.typst_markup.specs.MathArguments.{argument_end}
+use Rattle.typst_markup.proofs.Cited.{does-gives, does-pick, does-other, separates, ends_list, found, asks-yes, asks-no, argument_end}
 use Rattle.typst_markup.proofs.math_arguments.argument_end.Goals as goal
 
 pub returns-then-separates : goal.returns-then-separates

@@ -1,6 +1,4 @@
-use Rattle.std.proofs.Common.{sym, ◌∙◌}
-use Rattle.typst_language.proofs.Steps.{does-next, does-gives, does-pick, does-other}
-use Rattle.typst_markup.specs.MathArguments.{argument_exprs}
+use Rattle.typst_markup.proofs.Cited.{sym, ◌∙◌, does-next, does-gives, does-pick, does-other, argument_exprs}
 use Rattle.typst_markup.proofs.math_arguments.argument_exprs.Goals as goal
 
 pub returns-in_ok-expected : goal.returns-in_ok-expected

@@ -1,10 +1,4 @@
-use Rattle.std.proofs.Common.{ap, ◌∙◌, map}
-use Rattle.typst_language.specs.Shape.{seen}
-use Rattle.typst_language.proofs.Changes.{does-seeing}
-use Rattle.typst_language.proofs.Steps.{does-next, does-gives}
-use Rattle.typst_language.proofs.Values.{does-value}
-use Rattle.typst_markup.specs.Keys.{key_of}
-use Rattle.typst_markup.specs.MathArguments.{argument_name}
+use Rattle.typst_markup.proofs.Cited.{ap, ◌∙◌, map, seen, does-seeing, does-next, does-gives, does-value, key_of, argument_name}
 use Rattle.typst_markup.proofs.math_arguments.argument_name.Goals as goal
 
 pub returns : goal.returns

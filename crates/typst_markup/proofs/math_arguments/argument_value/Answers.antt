@@ -1,5 +1,4 @@
-use Rattle.typst_language.proofs.Steps.{does-next, does-gives, does-node}
-use Rattle.typst_markup.specs.MathArguments.{argument_value, value_shape}
+use Rattle.typst_markup.proofs.Cited.{does-next, does-gives, does-node, argument_value, value_shape}
 use Rattle.typst_markup.proofs.math_arguments.argument_value.Goals as goal
 
 pub returns : goal.returns

@@ -1,5 +1,4 @@
-use Rattle.std.proofs.Common.{sym, ◌∙◌}
-use Rattle.typst_markup.specs.MathArguments.{eat_name}
+use Rattle.typst_markup.proofs.Cited.{sym, ◌∙◌, eat_name}
 use Rattle.typst_markup.proofs.math_arguments.eat_name.Goals as goal
 
 pub returns-then-eq : goal.returns-then-eq

@@ -1,7 +1,4 @@
-use Rattle.std.proofs.Common.{sym, ◌∙◌}
-use Rattle.typst_language.proofs.Steps.{does-next, does-gives, does-peek, does-pick, does-other}
-use Rattle.typst_language.proofs.Values.{does-value}
-use Rattle.typst_markup.specs.MathArguments.{math_argument}
+use Rattle.typst_markup.proofs.Cited.{sym, ◌∙◌, does-next, does-gives, does-peek, does-pick, does-other, does-value, math_argument}
 use Rattle.typst_markup.proofs.math_arguments.math_argument.Goals as goal
 
 pub returns-then-eq : goal.returns-then-eq

@@ -1,7 +1,4 @@
-use Rattle.typst_language.proofs.Steps.{does-next, does-gives}
-use Rattle.typst_markup.specs.Equations.{ends_list}
-use Rattle.typst_language.proofs.Asks.{asks-yes, asks-no}
-use Rattle.typst_markup.specs.MathArguments.{math_argument_turn}
+use Rattle.typst_markup.proofs.Cited.{does-next, does-gives, ends_list, asks-yes, asks-no, math_argument_turn}
 use Rattle.typst_markup.proofs.math_arguments.math_argument_turn.Goals as goal
 
 pub returns-then-ends_list : goal.returns-then-ends_list

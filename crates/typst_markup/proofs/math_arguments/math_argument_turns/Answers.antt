@@ -1,5 +1,4 @@
-use Rattle.std.proofs.Common.{arith}
-use Rattle.typst_language.proofs.Steps.{turning-next, does-last}
+use Rattle.typst_markup.proofs.Cited.{arith, turning-next, does-last}
 use Rattle.typst_markup.proofs.math_arguments.math_argument_turns.Goals as goal
 
 pub returns-then-not-goes_on : goal.returns-then-not-goes_on
@@ -7,6 +6,4 @@ returns-then-not-goes_on g c l h =
     (c.turns.invariant l h).rest c.in_ok-more.next c.math_argument_turn.new.p (does-last h.sound (c.in_ok-more.ensures l h) (λ more. let stuck = c.goes_on.ensures.stops c.if-not-goes_on.true more in omega arith))
 
 pub turns-preserved : goal.turns-preserved
-turns-preserved g c l h =
-    let goes = c.goes_on.ensures.goes c.if-not-goes_on.false in
-    turning-next h.sound (c.turns.invariant l h) (rw goes.0 at c.in_ok-more.ensures l h) (omega arith)
+turns-preserved g c l h = grind (arith, turning-next)

@@ -1,8 +1,4 @@
-use Rattle.typst_language.specs.Meaning.{Level}
-use Rattle.typst_markup.specs.MathArguments.{math_argument_turn}
-use Rattle.typst_language.specs.Bytes.{bytes_left}
-use Rattle.typst_language.specs.View.{Fills}
-use Rattle.typst_language.proofs.Steps.{Turning}
+use Rattle.typst_markup.proofs.Cited.{Level, math_argument_turn, bytes_left, Fills, Turning}
 use Rattle.typst_markup.proofs.math_arguments.math_argument_turns.Given as goal
 
 abbrev pub invariant-turns : goal.invariant-turns

@@ -1,9 +1,5 @@
-use Rattle.std.proofs.Common.{ap, ◌∙◌}
-use Rattle.typst_kinds.specs.Kinds.{same}
+use Rattle.typst_markup.proofs.Cited.{ap, ◌∙◌, same, does-next, does-gives, does-node, encloses, math_arguments}
 use Rattle.typst_kinds.specs.declared.kind.SyntaxKind.TheVariants as kind
-use Rattle.typst_language.proofs.Steps.{does-next, does-gives, does-node}
-use Rattle.typst_language.specs.Shape.{encloses}
-use Rattle.typst_markup.specs.MathArguments.{math_arguments}
 use Rattle.typst_markup.proofs.math_arguments.math_arguments.Goals as goal
 
 pub returns : goal.returns

@@ -1,7 +1,5 @@
 use Rattle.typst_kinds.specs.declared.kind.SyntaxKind.TheVariants as kind
-use Rattle.typst_language.specs.Shape.Shape.{holds}
-use Rattle.typst_language.proofs.Steps.{does-next, does-gives, does-node}
-use Rattle.typst_markup.specs.MathArguments.{named_argument, name_change}
+use Rattle.typst_markup.proofs.Cited.{holds, does-next, does-gives, does-node, named_argument, name_change}
 use Rattle.typst_markup.proofs.math_arguments.named_argument.Goals as goal
 
 pub returns : goal.returns

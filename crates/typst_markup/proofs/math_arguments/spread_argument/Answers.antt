@@ -1,7 +1,5 @@
 use Rattle.typst_kinds.specs.declared.kind.SyntaxKind.TheVariants as kind
-use Rattle.typst_language.specs.Shape.{becomes}
-use Rattle.typst_language.proofs.Steps.{does-next, does-node}
-use Rattle.typst_markup.specs.MathArguments.{spread_argument}
+use Rattle.typst_markup.proofs.Cited.{becomes, does-next, does-node, spread_argument}
 use Rattle.typst_markup.proofs.math_arguments.spread_argument.Goals as goal
 
 pub returns : goal.returns

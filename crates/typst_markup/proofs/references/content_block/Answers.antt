@@ -1,9 +1,5 @@
-use Rattle.std.proofs.Common.{◌∙◌, ap}
-use Rattle.typst_kinds.specs.Kinds.{same}
+use Rattle.typst_markup.proofs.Cited.{◌∙◌, ap, same, encloses, content_block, markup_reading, does-next, does-gives, does-shape, does-scoped, loose-knows, rewrapped-loose}
 use Rattle.typst_kinds.specs.declared.kind.SyntaxKind.TheVariants as kind
-use Rattle.typst_language.specs.Shape.{encloses}
-use Rattle.typst_markup.specs.Markup.{content_block, markup_reading}
-use Rattle.typst_language.proofs.Steps.{does-next, does-gives, does-shape, does-scoped, loose-knows, rewrapped-loose}
 use Rattle.typst_markup.proofs.references.content_block.Goals as goal
 
 pub returns : goal.returns

@@ -1,6 +1,4 @@
-use Rattle.std.proofs.Common.{sym, ◌∙◌}
-use Rattle.typst_markup.specs.Markup.{direct_content}
-use Rattle.typst_language.proofs.Steps.{does-next, does-gives, does-peek, does-pick, does-other}
+use Rattle.typst_markup.proofs.Cited.{sym, ◌∙◌, direct_content, does-next, does-gives, does-peek, does-pick, does-other}
 use Rattle.typst_markup.proofs.references.direct_content.Goals as goal
 
 pub returns-in_ok-read_content : goal.returns-in_ok-read_content

@@ -1,7 +1,5 @@
 use Rattle.typst_kinds.specs.declared.kind.SyntaxKind.TheVariants as kind
-use Rattle.typst_language.specs.Shape.{becomes}
-use Rattle.typst_markup.specs.Markup.{reference}
-use Rattle.typst_language.proofs.Steps.{does-next, does-node}
+use Rattle.typst_markup.proofs.Cited.{becomes, reference, does-next, does-node}
 use Rattle.typst_markup.proofs.references.reference.Goals as goal
 
 pub returns : goal.returns

@@ -1,7 +1,5 @@
 use Rattle.typst_kinds.specs.declared.kind.SyntaxKind.TheVariants as kind
-use Rattle.typst_language.specs.Shape.{becomes}
-use Rattle.typst_markup.specs.Markup.{markup}
-use Rattle.typst_language.proofs.Steps.{does-node}
+use Rattle.typst_markup.proofs.Cited.{becomes, markup, does-node}
 use Rattle.typst_markup.proofs.sequences.markup.Goals as goal
 
 pub returns : goal.returns

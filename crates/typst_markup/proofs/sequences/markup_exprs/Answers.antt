@@ -1,7 +1,4 @@
-use Rattle.std.proofs.Common.{◌==◌, ◌∙◌, ap, sym}
-use Rattle.std.proofs.lemmas.Bool.{ne_eqb}
-use Rattle.typst_markup.specs.Markup.{markup_exprs}
-use Rattle.typst_language.proofs.Steps.{does-next, does-gives, does-peek, does-pick, does-other, does-deepest}
+use Rattle.typst_markup.proofs.Cited.{◌==◌, ◌∙◌, ap, sym, ne_eqb, markup_exprs, does-next, does-gives, does-peek, does-pick, does-other, does-deepest}
 use Rattle.typst_markup.proofs.sequences.markup_exprs.Goals as goal
 
 pub returns-then-levels-eq0 : goal.returns-then-levels-eq0

@@ -1,7 +1,4 @@
-use Rattle.std.proofs.Common.{◌==◌, ◌∙◌, ap, sym}
-use Rattle.std.proofs.lemmas.Bool.{ne_eqb}
-use Rattle.typst_language.proofs.Steps.{does-next, does-gives, does-look, does-pick, does-other, does-deepest, first-noted}
-use Rattle.typst_markup.specs.Markup.{markup_run}
+use Rattle.typst_markup.proofs.Cited.{◌==◌, ◌∙◌, ap, sym, ne_eqb, does-next, does-gives, does-look, does-pick, does-other, does-deepest, first-noted, markup_run}
 use Rattle.typst_markup.proofs.sequences.markup_run.Goals as goal
 
 pub returns-then-levels-eq0 : goal.returns-then-levels-eq0

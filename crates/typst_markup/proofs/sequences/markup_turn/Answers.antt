@@ -1,11 +1,5 @@
-use Rattle.std.proofs.Common.{◌≡◌, ◌∙◌, ℕ, Bool, true, ap, refl, sym, subst}
-use Rattle.typst_language.specs.Meaning.{Level}
-use Rattle.typst_language.specs.Steps.{peek}
+use Rattle.typst_markup.proofs.Cited.{◌≡◌, ◌∙◌, ℕ, Bool, true, ap, refl, sym, subst, Level, View, Does, markup_turn, note_piece, ends, stops_at, does-next, does-gives, does-peek, does-pick, does-other, peek}
 use Rattle.typst_language.specs.Syntax.Parser.{gives, next}
-use Rattle.typst_language.specs.View.{View, Does}
-use Rattle.typst_markup.specs.Markup.{markup_turn, note_piece, ends}
-use Rattle.typst_markup.specs.Stops.{stops_at}
-use Rattle.typst_language.proofs.Steps.{does-next, does-gives, does-peek, does-pick, does-other}
 use Rattle.typst_markup.proofs.sequences.markup_turn.Goals as goal
 
 -- what comes after an expression was noted with the newlines that were passed

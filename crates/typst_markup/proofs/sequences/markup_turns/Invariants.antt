@@ -1,9 +1,4 @@
-use Rattle.typst_language.specs.Meaning.{Level}
-use Rattle.typst_language.specs.Bytes.{bytes_left}
-use Rattle.typst_language.specs.View.{Fills}
-use Rattle.typst_language.proofs.Steps.{Turning}
-use Rattle.typst_markup.specs.Markup.{markup_turn}
-use Rattle.typst_markup.specs.Stops.{stops_at}
+use Rattle.typst_markup.proofs.Cited.{Level, bytes_left, Fills, Turning, markup_turn, stops_at}
 use Rattle.typst_markup.proofs.sequences.markup_turns.Given as goal
 
 abbrev pub invariant-turns : goal.invariant-turns

@@ -1,5 +1,4 @@
-use Rattle.typst_markup.specs.Markup.{note_piece}
-use Rattle.typst_language.proofs.Steps.{does-gives, does-pick, does-other}
+use Rattle.typst_markup.proofs.Cited.{note_piece, does-gives, does-pick, does-other}
 use Rattle.typst_markup.proofs.sequences.note_piece.Goals as goal
 
 pub returns-in_ok-note : goal.returns-in_ok-note

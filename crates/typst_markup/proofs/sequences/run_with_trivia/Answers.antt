@@ -1,7 +1,4 @@
-use Rattle.std.proofs.Common.{drop, sym, ◌∙◌}
-use Rattle.typst_markup.specs.Markup.{markup_is_empty}
-use Rattle.typst_language.proofs.Steps.{does-next, does-gives, does-node_with_trivia, nil-seen}
-use Rattle.typst_language.proofs.Values.{does-value}
+use Rattle.typst_markup.proofs.Cited.{drop, sym, ◌∙◌, markup_is_empty, does-next, does-gives, does-node_with_trivia, nil-seen, does-value}
 use Rattle.typst_markup.proofs.sequences.run_with_trivia.Goals as goal
 
 pub returns : goal.returns

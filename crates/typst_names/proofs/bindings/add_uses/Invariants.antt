@@ -1,5 +1,4 @@
-use Rattle.std.proofs.Common.{◌≡◌, ◌++◌, [], drop, take}
-use Rattle.typst_names.specs.Meanings.{hidden, uses}
+use Rattle.typst_names.proofs.Cited.{◌≡◌, ◌++◌, [], drop, take, hidden, uses}
 use Rattle.typst_names.proofs.bindings.add_uses.Given as goal
 
 abbrev pub invariant-loop-name : goal.invariant-loop-name

@@ -1,5 +1,4 @@
-use Rattle.std.proofs.Common.{◌≡◌, ◌≤◌}
-use Rattle.typst_names.specs.Meanings.{last_hiding}
+use Rattle.typst_names.proofs.Cited.{◌≡◌, ◌≤◌, last_hiding}
 use Rattle.typst_names.proofs.bindings.last_hiding.Given as goal
 
 abbrev pub invariant-loop-last : goal.invariant-loop-last

@@ -1,5 +1,4 @@
-use Rattle.std.proofs.Common.{◌≡◌, drop}
-use Rattle.typst_names.specs.Meanings.{name_at}
+use Rattle.typst_names.proofs.Cited.{◌≡◌, drop, name_at}
 use Rattle.typst_names.proofs.NamesAt.{among}
 use Rattle.typst_names.proofs.bindings.name_at.Given as goal
 

@@ -1,5 +1,4 @@
-use Rattle.std.proofs.Common.{◌≡◌, drop}
-use Rattle.typst_names.specs.Modules.{all_go_on}
+use Rattle.typst_names.proofs.Cited.{◌≡◌, drop, all_go_on}
 use Rattle.typst_names.proofs.modules.all_go_on.Given as goal
 
 abbrev pub invariant-loop-byte : goal.invariant-loop-byte

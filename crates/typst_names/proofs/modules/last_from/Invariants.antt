@@ -1,7 +1,4 @@
-use Rattle.std.proofs.Common.{◌≡◌, ◌<◌, drop, length}
-use Rattle.std.specs.Prelude.{IfSome}
-use Rattle.std.specs.Option.{option_or}
-use Rattle.typst_names.specs.Modules.{last_from, last_place}
+use Rattle.typst_names.proofs.Cited.{◌≡◌, ◌<◌, drop, length, IfSome, option_or, last_from, last_place}
 use Rattle.typst_names.proofs.modules.last_from.Given as goal
 
 abbrev pub invariant-loop-place : goal.invariant-loop-place

@@ -1,6 +1,5 @@
-use Rattle.std.proofs.Common.{◌≡◌, ◌++◌}
+use Rattle.typst_names.proofs.Cited.{◌≡◌, ◌++◌, roles}
 use Rattle.typst_names.specs.RoleRows.{left_all, steps_all}
-use Rattle.typst_names.specs.Roles.{roles}
 use Rattle.typst_names.proofs.roles.name_roles.Given as goal
 
 abbrev pub invariant-loop-row : goal.invariant-loop-row

@@ -1,5 +1,4 @@
-use Rattle.std.proofs.Common.{◌≡◌, ◌∙◌, [], length, ap, refl, arith}
-use Rattle.std.proofs.lemmas.Bool.Decides.{nat_tests}
+use Rattle.typst_names.proofs.Cited.{◌≡◌, ◌∙◌, [], length, ap, refl, arith, nat_tests}
 use Rattle.typst_names.specs.RoleRows.{left, left_all, steps_all}
 use Rattle.typst_names.proofs.LeftRoles.{left_pushed, none_left, steps_pushed}
 use Rattle.typst_names.proofs.roles.push_row.Goals as goal

@@ -1,11 +1,7 @@
-use Rattle.std.proofs.Common.{rules, ◌≡◌, ◌∙◌, List, ◌∷◌, ◌++◌, length, true, false, Option, ap, sym, arith}
-use Rattle.std.proofs.lemmas.Bool.Decides.{nat_tests}
-use Rattle.typst_tree.specs.Tree.{forest}
-use Rattle.typst_names.specs.Names.{is_end}
+use Rattle.typst_names.proofs.Cited.{rules, ◌≡◌, ◌∙◌, List, ◌∷◌, ◌++◌, length, true, false, Option, ap, sym, arith, nat_tests, forest, is_end, Role}
 use Rattle.typst_names.specs.Contexts.{after, below, role_of}
 use Rattle.typst_names.specs.RoleRows.{left, left_all}
 use Rattle.typst_names.specs.Roles.{own, row}
-use Rattle.typst_names.specs.declared.contexts.Role.{Role}
 use Rattle.typst_names.proofs.LeftNames.{end_is}
 use Rattle.typst_names.proofs.LeftRoles.{joined}
 use Rattle.typst_names.proofs.roles.take_next.Goals as goal

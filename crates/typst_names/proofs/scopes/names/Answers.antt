@@ -1,5 +1,4 @@
-use Rattle.std.proofs.Common.{◌∙◌, ◌++◌, ap, sym, arith}
-use Rattle.typst_names.specs.NameRows.{left_all, steps_all}
+use Rattle.typst_names.proofs.Cited.{◌∙◌, ◌++◌, ap, sym, arith, left_all, steps_all}
 use Rattle.typst_names.proofs.LeftNames.{left_pushed, steps_pushed}
 use Rattle.typst_names.proofs.scopes.names.Goals as goal
 

@@ -1,5 +1,4 @@
-use Rattle.std.proofs.Common.{◌≡◌, ◌++◌}
-use Rattle.typst_names.specs.NameRows.{left_all, steps_all}
+use Rattle.typst_names.proofs.Cited.{◌≡◌, ◌++◌, left_all, steps_all}
 use Rattle.typst_names.specs.Names as spec
 use Rattle.typst_names.proofs.scopes.names.Given as goal
 

@@ -1,6 +1,4 @@
-use Rattle.std.proofs.Common.{◌≡◌, ◌∙◌, [], length, ap, sym, refl, arith}
-use Rattle.std.proofs.lemmas.Bool.Decides.{nat_tests}
-use Rattle.typst_names.specs.NameRows.{left, left_all, steps_all}
+use Rattle.typst_names.proofs.Cited.{◌≡◌, ◌∙◌, [], length, ap, sym, refl, arith, nat_tests, left, left_all, steps_all}
 use Rattle.typst_names.proofs.LeftNames.{left_pushed, none_left, nothing_left, steps_pushed}
 use Rattle.typst_names.proofs.scopes.push_row.Goals as goal
 use Rattle.typst_names.proofs.scopes.push_row.Goals.{then-is_empty-via-then-is_empty, then-is_empty-via-else-is_empty+then-is_nothing}

@@ -1,12 +1,6 @@
-use Rattle.std.proofs.Common.{rules, ◌≡◌, ◌∙◌, List, ◌∷◌, ◌++◌, length, true, false, ap, sym, arith}
-use Rattle.std.proofs.lemmas.Bool.Decides.{nat_tests}
-use Rattle.typst_tree.specs.Tree.{forest}
+use Rattle.typst_names.proofs.Cited.{rules, ◌≡◌, ◌∙◌, List, ◌∷◌, ◌++◌, length, true, false, ap, sym, arith, nat_tests, forest, left, left_all, held, is_end, names_in, own, Part, Name}
 use Rattle.typst_names.specs.Bytes as bytes
-use Rattle.typst_names.specs.NameRows.{left, left_all}
-use Rattle.typst_names.specs.Names.{held, is_end, names_in, own}
 use Rattle.typst_names.specs.Scopes.{base, behind, first, second, third}
-use Rattle.typst_names.specs.declared.parts.Part.{Part}
-use Rattle.typst_names.specs.declared.scopes.Name.{Name}
 use Rattle.typst_names.proofs.LeftNames.{end_is, joined}
 use Rattle.typst_names.proofs.scopes.take_next.Goals as goal
 

@@ -1,6 +1,4 @@
-use Rattle.std.proofs.Common.{◌≡◌, ◌+◌, ◌≤◌, drop, length}
-use Rattle.typst_tree.specs.Laws.{AtPath, start_at}
-use Rattle.typst_tree.specs.Tree.{text_of}
+use Rattle.typst_parser.proofs.Cited.{◌≡◌, ◌+◌, ◌≤◌, drop, length, AtPath, start_at, text_of}
 use Rattle.typst_parser.proofs.attempt.byte_at.Given as goal
 
 abbrev pub invariant-loop-step : goal.invariant-loop-step

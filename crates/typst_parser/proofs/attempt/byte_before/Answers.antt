@@ -1,6 +1,4 @@
-use Rattle.std.proofs.Common.{◌≡◌, ◌+◌, ◌<◌, suc, length, take, ap, ◌∙◌, arith}
-use Rattle.typst_tree.specs.Replace.{kids_of}
-use Rattle.typst_tree.specs.Tree.{forest, joined}
+use Rattle.typst_parser.proofs.Cited.{◌≡◌, ◌+◌, ◌<◌, suc, length, take, ap, ◌∙◌, arith, kids_of, forest, joined}
 use Rattle.typst_parser.proofs.Paths.{Further, further, kid-is, taken-length}
 use Rattle.typst_parser.proofs.attempt.byte_before.Goals as goal
 use Rattle.typst_parser.proofs.attempt.byte_before.Goals.{After-len-at}
@@ -27,9 +25,4 @@ loop-kid-preserved c =
     (step c).is ∙ ap (λ n. length c.args.node.now.head.text + length (joined (forest (take n (kids_of c.args.node.now))))) next
 
 pub returns : goal.returns
-returns c =
-    let long = taken-length c.args.node.now c.children.result.now c.args.index c.children.ensures c.requires.within in
-    let test = c.loop-kid-test.false in
-    let most = c.loop-kid.auto.kid-index-end in
-    let all : c.loop-kid.kid-index ≡ c.args.index = omega (arith, test, most, long) in
-    record { start = c.loop-kid.invariant ∙ ap (λ n. length c.args.node.now.head.text + length (joined (forest (take n (kids_of c.args.node.now))))) all }
+returns c = grind (arith, taken-length)

@@ -1,6 +1,4 @@
-use Rattle.std.proofs.Common.{◌≡◌, ◌+◌, length, take}
-use Rattle.typst_tree.specs.Replace.{kids_of}
-use Rattle.typst_tree.specs.Tree.{forest, joined}
+use Rattle.typst_parser.proofs.Cited.{◌≡◌, ◌+◌, length, take, kids_of, forest, joined}
 use Rattle.typst_parser.proofs.attempt.byte_before.Given as goal
 
 abbrev pub invariant-loop-kid : goal.invariant-loop-kid

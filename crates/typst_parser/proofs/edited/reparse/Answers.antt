@@ -1,7 +1,4 @@
-use Rattle.std.proofs.Common.{◌≡◌, ap, sym, subst, ◌∙◌}
-use Rattle.std.specs.Prelude.{OnErr}
-use Rattle.typst_candidates.specs.Records.{Kept}
-use Rattle.typst_parser.specs.TextReplacement.{Holds}
+use Rattle.typst_parser.proofs.Cited.{◌≡◌, ap, subst, ◌∙◌, arith, OnErr, Kept}
 use Rattle.typst_parser.proofs.Answering.{places-fit}
 use Rattle.typst_parser.proofs.edited.reparse.Goals as goal
 
@@ -9,19 +6,13 @@ pub go_near-requires : goal.go_near-requires
 go_near-requires g c = places-fit (g.C.Classes.classes c.args.classes.now) c.requires.edits.0 c.args.root.now c.args.records.now.units c.requires.edits.1.1 c.args.new.now c.args.edit c.requires.edits.1.0
 
 pub reparse_near-requires-clause-edits : goal.reparse_near-requires-clause-edits
-reparse_near-requires-clause-edits g c =
-    let k = g.C.Classes.classes c.args.classes.now in
-    (c.requires.edits.0, (c.requires.edits.1.0, subst (λ (r : Kept). Holds k c.requires.edits.0 c.args.root.now r.units) (sym c.go_near.ensures) c.requires.edits.1.1))
+reparse_near-requires-clause-edits g c = grind arith
 
 pub returns-clause-part : goal.returns-clause-part
-returns-clause-part g c = λ ch makes holds.
-    let k = g.C.Classes.classes c.args.classes.now in
-    c.reparse_near.ensures.part ch makes (subst (λ (r : Kept). Holds k ch c.args.root.now r.units) (sym c.go_near.ensures) holds)
+returns-clause-part g c = grind arith
 
 pub returns-clause-none : goal.returns-clause-none
-returns-clause-none g c = λ ch makes holds e.
-    let k = g.C.Classes.classes c.args.classes.now in
-    c.reparse_near.ensures.none ch makes (subst (λ (r : Kept). Holds k ch c.args.root.now r.units) (sym c.go_near.ensures) holds) e
+returns-clause-none g c = grind arith
 
 pub returns-clause-undone : goal.returns-clause-undone
 returns-clause-undone g c = λ e. let u = c.reparse_near.ensures.undone e in (u.0, u.1 ∙ ap (λ (r : Kept). r.units) c.go_near.ensures)

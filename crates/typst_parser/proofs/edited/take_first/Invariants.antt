@@ -1,8 +1,4 @@
-use Rattle.std.proofs.Common.{◌≡◌, ◌+◌}
-use Rattle.typst_tree.specs.Boundaries.{IsBoundary}
-use Rattle.typst_parser.specs.Attempt.{Speaks}
-use Rattle.typst_parser.specs.TextReplacement.{TextReplacement}
-use Rattle.typst_parser.specs.Reparse.{AreFirst, NonePassesOf}
+use Rattle.typst_parser.proofs.Cited.{◌≡◌, ◌+◌, IsBoundary, Speaks, TextReplacement, AreFirst, NonePassesOf}
 use Rattle.typst_parser.proofs.Serving.{ServesAt}
 use Rattle.typst_parser.proofs.edited.take_first.Given as goal
 

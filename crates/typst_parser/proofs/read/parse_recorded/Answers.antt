@@ -1,9 +1,4 @@
-use Rattle.std.proofs.Common.{◌<◌, ◌-◌, ◌^◌, subst, ap, sym, ◌∙◌, arith}
-use Rattle.std.specs.Str.{chars}
-use Rattle.typst_candidates.specs.Records.{AllFit}
-use Rattle.typst_edits.specs.Log.{Log}
-use Rattle.typst_edits.specs.PieceNotes.{listed}
-use Rattle.typst_tokens.specs.Sight.{width}
+use Rattle.typst_parser.proofs.Cited.{◌<◌, ◌-◌, ◌^◌, subst, ap, sym, ◌∙◌, arith, chars, AllFit, Log, listed, width}
 use Rattle.typst_parser.proofs.Numbers.{notes-fit}
 use Rattle.typst_parser.proofs.Places.{width-chars}
 use Rattle.typst_parser.proofs.read.parse_recorded.Goals as goal

@@ -1,11 +1,5 @@
-use Rattle.std.proofs.Common.{◌≡◌, ◌≤◌, ◌<◌, ◌+◌, ◌-◌, ◌++◌, ◌∷◌, [], length, drop, sym, ap, ◌∙◌, arith}
-use Rattle.std.proofs.lemmas.Iterator.{YieldsList-from_chars}
-use Rattle.std.proofs.lemmas.Iterator.Consumers.{YieldsList-turn, YieldsList-end}
-use Rattle.std.proofs.lemmas.List.{at_drop_all, length_push}
-use Rattle.std.specs.Char.{len_utf8}
-use Rattle.std.specs.Str.{chars}
-use Rattle.typst_positions.specs.Columns.{bytes_before, measured, width}
-use Rattle.typst_positions.proofs.Widths.{measured-more, measured-stops, total, total-more, total-text}
+use Rattle.typst_positions.proofs.Cited.{common_steps, ◌-◌, arith, YieldsList-from_chars, at_drop_all, length_push, bytes_before, YieldsList-turn, YieldsList-end}
+use Rattle.typst_positions.proofs.Widths.{measured-more, measured-stops, total-more, total-text}
 use Rattle.typst_positions.proofs.columns.bytes_within.Goals as goal
 
 pub loop-c-init : goal.loop-c-init
@@ -15,30 +9,15 @@ pub returns-then-width-left-clause-value : goal.returns-then-width-left-clause-v
 unfolding bytes_before
 returns-then-width-left-clause-value c =
     let t = YieldsList-turn (YieldsList-from_chars c.args.line.now c.utf8.line cc) c.loop-c.yielded _ c.loop-c.yielded_by _ _ c.in-Some.c c.in-Some.is c.next.ensures.steps in
-    let less : c.loop-c.left < width c.args.encoding c.in-Some.c = omega (arith, c.width-width.ensures, c.if-width-left.true) in
-    let none = measured-stops len_utf8 (width c.args.encoding) c.loop-c.left (chars c.args.line.now) (length c.loop-c.yielded) c.in-Some.c t less in
-    sym (c.loop-c.invariant.counted ∙ ap (λ k. c.loop-c.bytes + k) none ∙ omega arith)
+    grind (arith, common_steps, measured-stops)
 
 pub loop-c-preserved : goal.loop-c-preserved
 loop-c-preserved c =
     let t = YieldsList-turn (YieldsList-from_chars c.args.line.now c.utf8.line cc) c.loop-c.yielded _ c.loop-c.yielded_by _ _ c.in-Some.c c.in-Some.is c.next.ensures.steps in
-    let cs = chars c.args.line.now in
-    let n = length c.loop-c.yielded in
-    let fits : width c.args.encoding c.in-Some.c ≤ c.loop-c.left = omega (arith, c.width-width.ensures, c.if-width-left.false) in
-    let more = measured-more len_utf8 (width c.args.encoding) c.loop-c.left cs n c.in-Some.c t fits in
-    let push = length_push c.loop-c.yielded c.in-Some.c in
-    let tail : measured len_utf8 (width c.args.encoding) (c.loop-c.left - width c.args.encoding c.in-Some.c) (drop (n + 1) cs) ≡ measured len_utf8 (width c.args.encoding) (c.loop-c.left - c.width-width.result) (drop (length (c.loop-c.yielded ++ c.in-Some.c ∷ [])) cs) =
-    ap (λ w. measured len_utf8 (width c.args.encoding) (c.loop-c.left - w) (drop (n + 1) cs)) (sym c.width-width.ensures) ∙ ap (λ k. measured len_utf8 (width c.args.encoding) (c.loop-c.left - c.width-width.result) (drop k cs)) (sym push) in
-    let less = total-more len_utf8 cs n c.in-Some.c t in
-    let rest = ap (λ k. total len_utf8 (drop k cs)) push in
-    record {
-      counted = omega (arith, c.loop-c.invariant.counted, more, tail, c.len_utf8-bytes.ensures.value);
-      within = omega (arith, c.loop-c.invariant.within, less, rest, c.len_utf8-bytes.ensures.value);
-    }
+    grind (arith, common_steps, measured-more, length_push, total-more)
 
 pub returns-clause-value : goal.returns-clause-value
 unfolding bytes_before
 returns-clause-value c =
     let t = YieldsList-end (YieldsList-from_chars c.args.line.now c.utf8.line cc) c.loop-c.yielded _ c.loop-c.yielded_by _ _ c.in-None.is c.next.ensures.steps in
-    let none = at_drop_all (measured len_utf8 (width c.args.encoding) c.loop-c.left) (chars c.args.line.now) (length c.loop-c.yielded) (omega (arith, t.1)) in
-    sym (c.loop-c.invariant.counted ∙ ap (λ k. c.loop-c.bytes + k) none ∙ omega arith)
+    grind (arith, common_steps, at_drop_all)

@@ -1,7 +1,4 @@
-use Rattle.std.proofs.Common.{◌≡◌, ◌≤◌, ◌+◌, length, drop}
-use Rattle.std.specs.Char.{len_utf8}
-use Rattle.std.specs.Str.{chars}
-use Rattle.typst_positions.specs.Columns.{measured, width}
+use Rattle.typst_positions.proofs.Cited.{◌≡◌, ◌≤◌, ◌+◌, length, drop, len_utf8, chars, measured, width}
 use Rattle.typst_positions.proofs.Widths.{total}
 use Rattle.typst_positions.proofs.columns.width_within.Given as goal
 

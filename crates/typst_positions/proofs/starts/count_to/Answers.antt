@@ -5,7 +5,6 @@ use Rattle.typst_positions.proofs.starts.count_to.Goals as goal
 
 pub returns-clause-value : goal.returns-clause-value
 returns-clause-value c =
-    let xs = c.args.starts.now in
-    let point = IsPartitionPoint-from_clause (λ (start : ℕ). nat_le start c.args.most) xs c.partition_point.result c.partition_point.ensures.partitioned
-    (IsPartitionedBy-leb (λ (start : ℕ). start) xs c.args.most c.requires) (λ a r f' k. search rules) in
-    sym (count-point (λ (start : ℕ). nat_le start c.args.most) xs c.partition_point.result c.partition_point.ensures.bound point)
+    let point = IsPartitionPoint-from_clause (λ (start : ℕ). nat_le start c.args.most) _ c.partition_point.result c.partition_point.ensures.partitioned
+    (IsPartitionedBy-leb (λ (start : ℕ). start) _ c.args.most c.requires) (λ a r f' k. search rules) in
+    sym (count-point (λ (start : ℕ). nat_le start c.args.most) _ c.partition_point.result c.partition_point.ensures.bound point)

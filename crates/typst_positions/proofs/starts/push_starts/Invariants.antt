@@ -1,5 +1,4 @@
-use Rattle.std.proofs.Common.{◌≡◌, ◌+◌, ◌-◌, ◌≤◌, ◌++◌}
-use Rattle.typst_positions.specs.Starts.{starts_between}
+use Rattle.typst_positions.proofs.Cited.{◌≡◌, ◌+◌, ◌-◌, ◌≤◌, ◌++◌, starts_between}
 use Rattle.typst_positions.proofs.starts.push_starts.Given as goal
 
 abbrev pub invariant-loop-end : goal.invariant-loop-end

@@ -1,5 +1,4 @@
-use Rattle.std.proofs.Common.{◌≡◌, ℕ, ◌+◌, ◌++◌, nat_le, count_by, length, map, take, drop, ap, ◌∙◌, arith}
-use Rattle.typst_positions.specs.Starts.{shifted}
+use Rattle.std.proofs.Common.{◌≡◌, ℕ, nat_le, count_by, ap, ◌∙◌, arith}
 use Rattle.typst_positions.proofs.Shifts.{count-mono, put-moved}
 use Rattle.typst_positions.proofs.starts.replace.Goals as goal
 
@@ -11,15 +10,4 @@ splice-requires-clause-order c =
     omega (arith, first, last, count-mono c.args.before c.args.end xs c.requires.ordered)
 
 pub returns-clause-ok : goal.returns-clause-ok
-returns-clause-ok c =
-    let xs = c.args.starts.now.items in
-    let first : c.count_to-first.result ≡ count_by (λ (s : ℕ). nat_le s c.args.before) xs = c.count_to-first.ensures.value ∙ ap (count_by (λ (s : ℕ). nat_le s c.args.before)) c.as_slice.ensures.value in
-    let last : c.count_to-last.result ≡ count_by (λ (s : ℕ). nat_le s c.args.end) xs = c.count_to-last.ensures.value ∙ ap (count_by (λ (s : ℕ). nat_le s c.args.end)) c.as_slice-2.ensures.value in
-    let ys = c.args.between.items in
-    let move = shifted c.args.end c.args.to in
-    let within = c.count_to-first.ensures.within in
-    c.shift.ensures
-    ∙ put-moved move xs ys c.splice.new.starts.items c.count_to-first.result c.count_to-last.result (c.count_to-first.result + c.len.result) (omega (arith, within, ap length c.as_slice.ensures.value))
-    (omega (arith, c.len.ensures, c.args.between.ok.0)) c.in_ok-splice.ensures.ok
-    ∙ ap (λ n. take n xs ++ (ys ++ map move (drop c.count_to-last.result xs))) first
-    ∙ ap (λ n. take (count_by (λ (s : ℕ). nat_le s c.args.before) xs) xs ++ (ys ++ map move (drop n xs))) last
+returns-clause-ok c = grind (arith, put-moved)

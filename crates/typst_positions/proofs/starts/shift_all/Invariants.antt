@@ -1,5 +1,4 @@
-use Rattle.std.proofs.Common.{◌≡◌, ◌++◌, map, take, drop}
-use Rattle.typst_positions.specs.Starts.{shifted}
+use Rattle.typst_positions.proofs.Cited.{◌≡◌, ◌++◌, map, take, drop, shifted}
 use Rattle.typst_positions.proofs.starts.shift_all.Given as goal
 
 abbrev pub invariant-loop-at : goal.invariant-loop-at

@@ -1,7 +1,5 @@
-use Rattle.std.proofs.Common.{◌≡◌, map, ◌∙◌, sym}
-use Rattle.std.proofs.lemmas.Iterator.{items_from_drains}
+use Rattle.typst_positions.proofs.Cited.{◌≡◌, map, ◌∙◌, sym, items_from_drains, map-id}
 use Rattle.std.proofs.lemmas.Iterator.Adapters.{YieldsList-from_vec}
-use Rattle.std.proofs.lemmas.List.{map-id}
 use Rattle.typst_positions.proofs.starts.splice.Goals as goal
 
 pub returns-clause-ok : goal.returns-clause-ok

@@ -1,7 +1,5 @@
-use Rattle.std.proofs.Common.{◌≡◌}
-use Rattle.std.specs.Str.{bytes_eq}
+use Rattle.typst_protocol.proofs.Cited.{◌≡◌, bytes_eq, is_same}
 use Rattle.percent_encoding.specs.Iter.{decoded_bytes}
-use Rattle.typst_protocol.specs.Addresses.{is_same}
 use Rattle.typst_protocol.proofs.address.is_same.Given as goal
 
 abbrev pub invariant-loop-byte : goal.invariant-loop-byte

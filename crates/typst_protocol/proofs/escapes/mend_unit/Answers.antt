@@ -1,6 +1,4 @@
-use Rattle.std.proofs.Common.{◌≡◌, ◌+◌, drop, false, sym, ap, ◌∙◌}
-use Rattle.std.proofs.lemmas.List.{take_rest}
-use Rattle.typst_protocol.specs.Escapes.{begins_low, is_lone}
+use Rattle.typst_protocol.proofs.Cited.{◌≡◌, ◌+◌, drop, false, sym, ap, ◌∙◌, take_rest, begins_low, is_lone}
 use Rattle.typst_protocol.proofs.Mending.{stays}
 use Rattle.typst_protocol.proofs.escapes.mend_unit.Goals as goal
 

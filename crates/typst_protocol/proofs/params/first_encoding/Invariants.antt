@@ -1,5 +1,4 @@
-use Rattle.std.proofs.Common.{◌≡◌, drop}
-use Rattle.serde_json.specs.View.{items_view}
+use Rattle.typst_protocol.proofs.Cited.{◌≡◌, drop, items_view}
 use Rattle.typst_protocol.specs.Parameters as spec
 use Rattle.typst_protocol.proofs.params.first_encoding.Given as goal
 

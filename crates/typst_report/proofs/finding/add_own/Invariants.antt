@@ -1,6 +1,4 @@
-use Rattle.std.proofs.Common.{◌≡◌, ◌++◌, drop, map}
-use Rattle.typst_report.specs.Found.{as_reported}
-use Rattle.typst_report.specs.Reported.{reported_of}
+use Rattle.typst_report.proofs.Cited.{◌≡◌, ◌++◌, drop, map, as_reported, reported_of}
 use Rattle.typst_report.proofs.finding.add_own.Given as goal
 
 abbrev pub invariant-loop-diagnostic : goal.invariant-loop-diagnostic

@@ -1,7 +1,4 @@
-use Rattle.std.proofs.Common.{◌≡◌, ◌++◌, length, map}
-use Rattle.typst_tree.specs.Preorder.{diagnosed}
-use Rattle.typst_report.specs.Found.{as_reported}
-use Rattle.typst_report.specs.Reported.{reported}
+use Rattle.typst_report.proofs.Cited.{◌≡◌, ◌++◌, length, map, as_reported, reported, diagnosed}
 use Rattle.typst_report.proofs.VisitLemmas.{each, reported_at}
 use Rattle.typst_report.proofs.finding.findings.Given as goal
 

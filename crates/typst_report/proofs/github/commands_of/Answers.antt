@@ -1,6 +1,4 @@
-use Rattle.std.proofs.Common.{map, refl, arith}
-use Rattle.typst_report.specs.Github.{command, commands}
-use Rattle.typst_report.specs.Placed.{as_placed}
+use Rattle.typst_report.proofs.Cited.{map, refl, arith, command, commands, as_placed}
 use Rattle.typst_report.proofs.LineLemmas.{lines_more}
 use Rattle.typst_report.proofs.github.commands_of.Goals as goal
 

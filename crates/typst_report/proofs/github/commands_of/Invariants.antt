@@ -1,6 +1,4 @@
-use Rattle.std.proofs.Common.{◌≡◌, ◌++◌, drop, map, string_bytes}
-use Rattle.typst_report.specs.Placed.{as_placed}
-use Rattle.typst_report.specs.Github.{commands}
+use Rattle.typst_report.proofs.Cited.{◌≡◌, ◌++◌, drop, map, string_bytes, as_placed, commands}
 use Rattle.typst_report.proofs.github.commands_of.Given as goal
 
 abbrev pub invariant-loop-one : goal.invariant-loop-one

@@ -1,7 +1,5 @@
-use Rattle.std.proofs.Common.{◌≡◌, ◌∙◌, ◌<◌, Some, None, ap, sym, arith, length, slice_get}
+use Rattle.typst_report.proofs.Cited.{◌≡◌, ◌∙◌, ◌<◌, Some, None, ap, sym, arith, length, slice_get, line_table, slice_get-get_or}
 use Rattle.std.specs.String.{string_bytes}
-use Rattle.std.proofs.lemmas.Option.{slice_get-get_or}
-use Rattle.typst_lines.specs.Lines.{line_table}
 use Rattle.typst_report.proofs.PrintedLemmas.{rows-printed}
 use Rattle.typst_report.proofs.lines.answer.Goals as goal
 use Rattle.typst_report.proofs.lines.answer.Goals.{in-Some+in_ok-push_row, in_default}

@@ -1,7 +1,5 @@
-use Rattle.std.proofs.Common.{◌≡◌, ◌++◌, drop}
+use Rattle.typst_report.proofs.Cited.{◌≡◌, ◌++◌, drop, line_table, rows}
 use Rattle.std.specs.String.{string_bytes}
-use Rattle.typst_lines.specs.Lines.{line_table}
-use Rattle.typst_report.specs.PrintedLines.{rows}
 use Rattle.typst_report.proofs.lines.answer.Given as goal
 
 abbrev pub invariant-loop-number : goal.invariant-loop-number

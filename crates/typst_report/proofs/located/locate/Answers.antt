@@ -1,7 +1,4 @@
-use Rattle.std.proofs.Common.{◌≡◌, ◌+◌, ◌++◌, ◌∷◌, [], List, map, take, subst, sym, arith}
-use Rattle.typst_report.specs.declared.located.Located.{Located}
-use Rattle.typst_report.specs.Found.{as_reported}
-use Rattle.typst_report.specs.Placed.{ArePlaced, as_placed}
+use Rattle.typst_report.proofs.Cited.{◌≡◌, ◌+◌, ◌++◌, ◌∷◌, [], List, map, take, subst, sym, arith, Located, as_reported, ArePlaced, as_placed}
 use Rattle.typst_report.proofs.PlacedLemmas.{placed_more}
 use Rattle.typst_report.proofs.located.locate.Goals as goal
 

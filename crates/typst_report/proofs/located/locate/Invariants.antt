@@ -1,7 +1,4 @@
-use Rattle.std.proofs.Common.{IfSome, take, map}
-use Rattle.typst_report.specs.Found.{as_reported}
-use Rattle.typst_report.specs.Placed.{ArePlaced, as_placed}
-use Rattle.typst_report.specs.Places.{IsPlace}
+use Rattle.typst_report.proofs.Cited.{IfSome, take, map, as_reported, ArePlaced, as_placed, IsPlace}
 use Rattle.typst_report.proofs.located.locate.Given as goal
 
 abbrev pub invariant-loop-finding : goal.invariant-loop-finding

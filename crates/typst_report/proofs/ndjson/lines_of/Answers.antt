@@ -1,6 +1,4 @@
-use Rattle.std.proofs.Common.{map, refl, arith}
-use Rattle.typst_report.specs.Ndjson.{finding, line, lines}
-use Rattle.typst_report.specs.Placed.{as_placed}
+use Rattle.typst_report.proofs.Cited.{map, refl, arith, finding, line, lines, as_placed}
 use Rattle.typst_report.proofs.LineLemmas.{lines_more}
 use Rattle.typst_report.proofs.ndjson.lines_of.Goals as goal
 

@@ -1,6 +1,4 @@
-use Rattle.std.proofs.Common.{◌≡◌, ◌++◌, drop, map}
-use Rattle.typst_report.specs.Placed.{as_placed}
-use Rattle.typst_report.specs.Ndjson.{lines}
+use Rattle.typst_report.proofs.Cited.{◌≡◌, ◌++◌, drop, map, as_placed, lines}
 use Rattle.typst_report.proofs.ndjson.lines_of.Given as goal
 
 abbrev pub invariant-loop-one : goal.invariant-loop-one

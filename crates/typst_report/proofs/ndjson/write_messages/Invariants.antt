@@ -1,5 +1,4 @@
-use Rattle.std.proofs.Common.{◌≡◌, ◌++◌, drop}
-use Rattle.typst_report.specs.Ndjson.{messages}
+use Rattle.typst_report.proofs.Cited.{◌≡◌, ◌++◌, drop, messages}
 use Rattle.typst_report.proofs.ndjson.write_messages.Given as goal
 
 abbrev pub invariant-loop-hint : goal.invariant-loop-hint

@@ -1,6 +1,4 @@
-use Rattle.std.proofs.Common.{◌≡◌, ◌+◌, length, drop}
-use Rattle.std.specs.Str.{chars}
-use Rattle.typst_lines.specs.Lines.{units}
+use Rattle.typst_report.proofs.Cited.{◌≡◌, ◌+◌, length, drop, chars, units}
 use Rattle.typst_report.proofs.place.count.Given as goal
 
 abbrev pub invariant-loop-c : goal.invariant-loop-c

@@ -1,6 +1,4 @@
-use Rattle.std.proofs.Common.{◌≡◌, drop, map}
-use Rattle.typst_report.specs.Found.{as_reported}
-use Rattle.typst_report.specs.Reported.{any_error}
+use Rattle.typst_report.proofs.Cited.{◌≡◌, drop, map, as_reported, any_error}
 use Rattle.typst_report.proofs.report.any_error.Given as goal
 
 abbrev pub invariant-loop-finding : goal.invariant-loop-finding

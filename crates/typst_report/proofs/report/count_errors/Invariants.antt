@@ -1,6 +1,4 @@
-use Rattle.std.proofs.Common.{◌≡◌, ◌+◌, ◌≤◌, drop, map}
-use Rattle.typst_report.specs.Found.{as_reported}
-use Rattle.typst_report.specs.Reported.{error_count}
+use Rattle.typst_report.proofs.Cited.{◌≡◌, ◌+◌, ◌≤◌, drop, map, as_reported, error_count}
 use Rattle.typst_report.proofs.report.count_errors.Given as goal
 
 abbrev pub invariant-loop-finding : goal.invariant-loop-finding

@@ -1,5 +1,4 @@
-use Rattle.std.proofs.Common.{◌≡◌, map, length, take, min}
-use Rattle.std.proofs.lemmas.List.{take_min, take-map}
+use Rattle.typst_report.proofs.Cited.{◌≡◌, map, length, take, min, take_min, take-map}
 use Rattle.typst_report.proofs.report.first.Goals as goal
 
 pub returns-in-Some : goal.returns-in-Some

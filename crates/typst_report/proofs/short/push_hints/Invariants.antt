@@ -1,5 +1,4 @@
-use Rattle.std.proofs.Common.{◌≡◌, ◌++◌, drop, string_bytes}
-use Rattle.typst_report.specs.Short.{hint_lines}
+use Rattle.typst_report.proofs.Cited.{◌≡◌, ◌++◌, drop, string_bytes, hint_lines}
 use Rattle.typst_report.proofs.short.push_hints.Given as goal
 
 abbrev pub invariant-loop-hint : goal.invariant-loop-hint

@@ -1,7 +1,4 @@
-use Rattle.std.proofs.Common.{◌≡◌, ◌∙◌, ◌+◌, sym, subst, arith, take}
-use Rattle.std.proofs.KnownBytes.{Appends-kept}
-use Rattle.std.proofs.lemmas.List.{length-drop, take_rest}
-use Rattle.std.specs.Io.KnownBytes.{Appends}
+use Rattle.typst_report.proofs.Cited.{◌≡◌, ◌∙◌, ◌+◌, sym, subst, arith, take, length-drop, take_rest, Appends, Appends-kept}
 use Rattle.typst_report.proofs.StreamLemmas.{Appends-piece}
 use Rattle.typst_report.proofs.streams.write_bytes.Goals as goal
 use Rattle.typst_report.proofs.streams.write_bytes.Goals.{in-Ok, in-Err}

@@ -1,5 +1,4 @@
-use Rattle.std.proofs.Common.{◌≡◌, ◌++◌, drop, string_bytes}
-use Rattle.typst_report.specs.PrintedTree.{errors}
+use Rattle.typst_report.proofs.Cited.{◌≡◌, ◌++◌, drop, string_bytes, errors}
 use Rattle.typst_report.proofs.tree.print_errors.Given as goal
 
 abbrev pub invariant-loop-diagnostic : goal.invariant-loop-diagnostic

@@ -1,5 +1,4 @@
-use Rattle.std.proofs.Common.{◌≡◌, ◌++◌, drop, string_bytes}
-use Rattle.typst_report.specs.PrintedTree.{hints}
+use Rattle.typst_report.proofs.Cited.{◌≡◌, ◌++◌, drop, string_bytes, hints}
 use Rattle.typst_report.proofs.tree.print_hints.Given as goal
 
 abbrev pub invariant-loop-hint : goal.invariant-loop-hint

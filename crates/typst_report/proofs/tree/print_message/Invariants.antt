@@ -1,6 +1,4 @@
-use Rattle.std.proofs.Common.{◌≡◌, ◌++◌, length, drop, string_bytes}
-use Rattle.std.specs.Str.{chars}
-use Rattle.typst_report.specs.PrintedTree.{one_line, spaced}
+use Rattle.typst_report.proofs.Cited.{◌≡◌, ◌++◌, length, drop, string_bytes, chars, one_line, spaced}
 use Rattle.typst_report.proofs.tree.print_message.Given as goal
 
 abbrev pub invariant-loop-c : goal.invariant-loop-c

@@ -1,11 +1,4 @@
-use Rattle.std.proofs.Common.{◌≡◌, ℕ, ◌+◌, ◌-◌, List, [], ◌∷◌, ◌++◌, length, take, Some, string_bytes, refl, ap, sym, subst, ◌∙◌, arith, append_assoc}
-use Rattle.std.proofs.lemmas.Grind.{common_steps}
-use Rattle.std.proofs.lemmas.List.{length_push}
-use Rattle.std.proofs.lemmas.List.Elements.{All-pop, All-push}
-use Rattle.std.specs.Prelude.{All}
-use Rattle.typst_tree.specs.Tree.{text_of}
-use Rattle.typst_report.specs.PrintedTree.{deeper, head_lines, own_line, remarks}
-use Rattle.typst_report.specs.declared.tree.Siblings.{Siblings}
+use Rattle.typst_report.proofs.Cited.{◌≡◌, ℕ, ◌+◌, ◌-◌, List, [], ◌∷◌, ◌++◌, length, take, Some, string_bytes, refl, ap, sym, subst, ◌∙◌, arith, append_assoc, common_steps, length_push, All, text_of, deeper, head_lines, own_line, remarks, All-pop, All-push, Siblings}
 use Rattle.typst_report.proofs.RowLemmas.{Fits, after_fits, below_fits, first_fits, indented, last_level, left_lines, left_more, left_passed, level_boundary, level_cut, level_two, next_level, steps_more, steps_passed}
 use Rattle.typst_report.proofs.tree.print_node.Goals as goal
 use Rattle.typst_report.proofs.tree.print_node.Goals.{In-Some}

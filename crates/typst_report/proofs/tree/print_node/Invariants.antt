@@ -1,6 +1,4 @@
-use Rattle.std.proofs.Common.{◌≡◌, ◌++◌, length, string_bytes}
-use Rattle.std.specs.Prelude.{All}
-use Rattle.typst_report.specs.PrintedTree.{node_lines}
+use Rattle.typst_report.proofs.Cited.{◌≡◌, ◌++◌, length, string_bytes, All, node_lines}
 use Rattle.typst_report.proofs.RowLemmas.{Fits, indented, left_lines, steps}
 use Rattle.typst_report.proofs.tree.print_node.Given as goal
 

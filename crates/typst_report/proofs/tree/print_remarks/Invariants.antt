@@ -1,5 +1,4 @@
-use Rattle.std.proofs.Common.{◌≡◌, ◌++◌, drop, string_bytes}
-use Rattle.typst_report.specs.PrintedTree.{remarks}
+use Rattle.typst_report.proofs.Cited.{◌≡◌, ◌++◌, drop, string_bytes, remarks}
 use Rattle.typst_report.proofs.tree.print_remarks.Given as goal
 
 abbrev pub invariant-loop-diagnostic : goal.invariant-loop-diagnostic

@@ -1,5 +1,4 @@
-use Rattle.std.proofs.Common.{◌≡◌, ◌++◌, length}
-use Rattle.typst_report.specs.TreeLines.{tree_lines}
+use Rattle.typst_report.proofs.Cited.{◌≡◌, ◌++◌, length, tree_lines}
 use Rattle.typst_report.proofs.VisitLemmas.{each, line_at}
 use Rattle.typst_report.proofs.tree_lines.lines_of.Given as goal
 

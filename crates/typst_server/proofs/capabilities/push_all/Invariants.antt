@@ -1,5 +1,4 @@
-use Rattle.std.specs.String.{string_bytes}
-use Rattle.typst_server.specs.Results.{Grows}
+use Rattle.typst_server.proofs.Cited.{string_bytes, Grows}
 use Rattle.typst_server.proofs.capabilities.push_all.Given as goal
 
 abbrev pub invariant-loop-part : goal.invariant-loop-part

@@ -1,8 +1,5 @@
-use Rattle.std.proofs.Common.{◌≡◌, take}
-use Rattle.std.specs.Prelude.{map}
-use Rattle.typst_features.specs.Problems.{reported}
+use Rattle.typst_server.proofs.Cited.{◌≡◌, take, ArePublished, reported, map}
 use Rattle.typst_server.proofs.diagnostics.items_of.Given as goal
-use Rattle.typst_server.specs.Published.{ArePublished}
 
 abbrev pub invariant-loop-problem : goal.invariant-loop-problem
 invariant-loop-problem l =

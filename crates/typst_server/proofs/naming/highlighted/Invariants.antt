@@ -1,6 +1,4 @@
-use Rattle.std.proofs.Common.{◌≡◌, take}
-use Rattle.std.specs.Prelude.{map}
-use Rattle.typst_server.specs.Located.{AreAt, IsHighlightOf}
+use Rattle.typst_server.proofs.Cited.{◌≡◌, take, AreAt, IsHighlightOf, map}
 use Rattle.typst_server.proofs.naming.highlighted.Given as goal
 
 abbrev pub invariant-loop-occurrence : goal.invariant-loop-occurrence

@@ -1,6 +1,4 @@
-use Rattle.std.proofs.Common.{◌≡◌, take}
-use Rattle.std.specs.Prelude.{map}
-use Rattle.typst_server.specs.Located.{AreAt, IsLocationOf}
+use Rattle.typst_server.proofs.Cited.{◌≡◌, take, AreAt, IsLocationOf, map}
 use Rattle.typst_server.proofs.naming.located.Given as goal
 
 abbrev pub invariant-loop-occurrence : goal.invariant-loop-occurrence

@@ -1,7 +1,4 @@
-use Rattle.std.proofs.Common.{◌≡◌, ◌++◌, drop}
-use Rattle.std.specs.Prelude.{map}
-use Rattle.typst_features.specs.Labels.{mentioned}
-use Rattle.typst_server.specs.Occurrences.{occurred}
+use Rattle.typst_server.proofs.Cited.{◌≡◌, ◌++◌, drop, occurred, mentioned, map}
 use Rattle.typst_server.proofs.naming.mentioned.Given as goal
 
 abbrev pub invariant-loop-mention : goal.invariant-loop-mention

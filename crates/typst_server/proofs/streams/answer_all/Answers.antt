@@ -1,7 +1,6 @@
-use Rattle.std.proofs.Common.{◌≡◌, IfNone, IfSome, None, subst}
+use Rattle.typst_server.proofs.Cited.{◌≡◌, IfNone, IfSome, None, subst, GoesOn, Turns}
 use Rattle.typst_server.proofs.Transcripts.{ends-known, gives-up-known, more-known}
 use Rattle.typst_server.proofs.streams.answer_all.Goals as goal
-use Rattle.typst_server.specs.Transcript.{GoesOn, Turns}
 
 pub returns-in-Some : goal.returns-in-Some
 returns-in-Some g c =

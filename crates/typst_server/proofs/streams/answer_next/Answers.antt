@@ -1,7 +1,6 @@
-use Rattle.std.proofs.Common.{Ok, subst}
+use Rattle.typst_server.proofs.Cited.{Ok, subst, AnswersFrame}
 use Rattle.typst_server.proofs.Transcripts.{read-on, turns}
 use Rattle.typst_server.proofs.streams.answer_next.Goals as goal
-use Rattle.typst_server.specs.Transcript.{AnswersFrame}
 
 pub returns-clause-turn : goal.returns-clause-turn
 returns-clause-turn g c =

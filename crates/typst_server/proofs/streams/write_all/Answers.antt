@@ -1,13 +1,6 @@
-use Rattle.std.proofs.Common.{arith, ap, subst, ◌∙◌}
-use Rattle.std.specs.Io.KnownBytes.{Appends}
-use Rattle.std.specs.Prelude.{map}
-use Rattle.std.specs.String.{string_bytes}
-use Rattle.typst_protocol.proofs.Writing.{begins-whole}
-use Rattle.typst_protocol.specs.Frames.{written}
-use Rattle.typst_protocol.specs.Stream.{Begins}
+use Rattle.typst_server.proofs.Cited.{arith, ap, subst, ◌∙◌, Appends, string_bytes, Begins, begins-whole, written}
 use Rattle.typst_server.proofs.Transcripts.{all-written, begins-at, more-written}
 use Rattle.typst_server.proofs.streams.write_all.Goals as goal
-use Rattle.typst_server.specs.Transcript.{frames_of}
 
 pub returns-in_err-write_frame-clause-begins : goal.returns-in_err-write_frame-clause-begins
 returns-in_err-write_frame-clause-begins g c =
@@ -24,7 +17,4 @@ loop-body-preserved g c =
     (subst (λ bytes. Appends (W c.loop-body.output) (W c.write_frame.new.writer) (written bytes)) (c.as_bytes.ensures.value ∙ ap string_bytes c.body-item.is) c.in_ok-write_frame.ensures.whole)
 
 pub returns-clause-begins : goal.returns-clause-begins
-returns-clause-begins g c =
-    let W = g.W.Write.contents in
-    begins-whole (W c.args.output.now) (W c.loop-body.output) (frames_of (map string_bytes c.args.bodies.now))
-    (all-written (W c.args.output.now) (W c.loop-body.output) c.args.bodies.now c.loop-body.body-index (omega (arith, c.loop-body-test.false)) c.loop-body.invariant)
+returns-clause-begins g c = grind (arith, begins-whole, all-written)

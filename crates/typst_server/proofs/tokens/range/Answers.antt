@@ -1,9 +1,6 @@
-use Rattle.std.proofs.Common.{None, ap, refl, ◌∙◌}
-use Rattle.typst_protocol.specs.Parameters.{seen}
-use Rattle.typst_protocol.specs.declared.values.Tokens.{Tokens}
+use Rattle.typst_server.proofs.Cited.{None, ap, refl, ◌∙◌, seen, decoded, Tokens}
 use Rattle.typst_server.proofs.Sending.{within_written}
 use Rattle.typst_server.proofs.tokens.range.Goals as goal
-use Rattle.typst_server.specs.Numbers.{decoded}
 
 pub returns : goal.returns
 returns c =

@@ -1,5 +1,4 @@
-use Rattle.std.proofs.Common.{length, ap, arith}
-use Rattle.typst_tree.proofs.Boundaries.{kids_are}
+use Rattle.typst_styles.proofs.Cited.{length, ap, arith, kids_are}
 use Rattle.typst_styles.proofs.boundaries.on_to.Goals as goal
 
 pub after-next-requires-clause-more : goal.after-next-requires-clause-more

@@ -1,5 +1,4 @@
-use Rattle.std.proofs.Common.{◌-◌, ◌<◌, ◌≤◌}
-use Rattle.typst_tree.specs.Boundaries.{IsBoundary}
+use Rattle.typst_styles.proofs.Cited.{◌-◌, ◌<◌, ◌≤◌, IsBoundary}
 use Rattle.typst_styles.proofs.boundaries.on_to.Given as goal
 
 abbrev pub decreases-loop-here : goal.decreases-loop-here

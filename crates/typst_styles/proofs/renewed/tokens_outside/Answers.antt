@@ -1,6 +1,5 @@
-use Rattle.std.proofs.Common.{◌-◌, ap, ◌∙◌}
+use Rattle.typst_styles.proofs.Cited.{◌-◌, ap, ◌∙◌, Outside}
 use Rattle.typst_styles.proofs.RenewedTokens.{outside}
-use Rattle.typst_styles.specs.declared.renewed.Outside.{Outside}
 use Rattle.typst_styles.proofs.renewed.tokens_outside.Goals as goal
 
 pub returns : goal.returns

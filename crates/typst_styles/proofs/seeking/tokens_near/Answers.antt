@@ -1,12 +1,6 @@
-use Rattle.std.proofs.Common.{◌∙◌, ap, sym, arith}
-use Rattle.typst_styles.proofs.SoughtRows.{whole_from}
+use Rattle.std.proofs.Common.{arith}
 use Rattle.typst_styles.proofs.SoughtSteps.{begun, begun_rows, popped_left, popped_rows, popped_steps}
-use Rattle.typst_styles.specs.Tokens.{touching}
 use Rattle.typst_styles.proofs.seeking.tokens_near.Goals as goal
-
-pub pass_to-requires-clause-whole : goal.pass_to-requires-clause-whole
-pass_to-requires-clause-whole c =
-    whole_from c.args.wanted.now.text.now c.args.wanted.now.root.now c.top-top.result c.in_ok-first.first c.new-found.result.items c.go_into.new.found.items c.top-top.ensures c.in_ok-first.ensures
 
 pub loop-row-init : goal.loop-row-init
 loop-row-init c =
@@ -22,14 +16,7 @@ pub take_next-requires : goal.take_next-requires
 take_next-requires c = (popped_rows c.args.wanted.now.root.now c.loop-row.rows.items c.pop.new.self.items c.in-Some.row c.in-Some.ensures.items c.loop-row.invariant.rows).1
 
 pub loop-row-preserved : goal.loop-row-preserved
-loop-row-preserved c =
-    let range = c.args.wanted.now.within.now in
-    let text = c.args.wanted.now.text.now in
-    let root = c.args.wanted.now.root.now in
-    record {
-      found = c.in_ok-take_next.ensures.taken ∙ (ap (touching range) (sym (popped_left text root c.loop-row.found.items c.loop-row.rows.items c.pop.new.self.items c.in-Some.row c.in-Some.ensures.items)) ∙ c.loop-row.invariant.found);
-      rows = c.in_ok-take_next.ensures.ready (popped_rows root c.loop-row.rows.items c.pop.new.self.items c.in-Some.row c.in-Some.ensures.items c.loop-row.invariant.rows).0;
-    }
+loop-row-preserved c = grind (arith, popped_left, popped_rows)
 
 pub loop-row-smaller : goal.loop-row-smaller
 loop-row-smaller c = omega (arith, c.in_ok-take_next.ensures.fewer, popped_steps c.loop-row.rows.items c.pop.new.self.items c.in-Some.row c.in-Some.ensures.items)

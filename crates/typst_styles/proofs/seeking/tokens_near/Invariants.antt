@@ -1,6 +1,4 @@
-use Rattle.std.proofs.Common.{◌≡◌, ◌++◌}
-use Rattle.typst_styles.specs.Seeking.{AreRows, left_of_all, steps_all}
-use Rattle.typst_styles.specs.Tokens.{all_tokens, touching}
+use Rattle.typst_styles.proofs.Cited.{◌≡◌, ◌++◌, AreRows, left_of_all, steps_all, all_tokens, touching}
 use Rattle.typst_styles.proofs.seeking.tokens_near.Given as goal
 
 abbrev pub invariant-loop-row : goal.invariant-loop-row

@@ -1,7 +1,4 @@
-use Rattle.std.proofs.Common.{List, arith, map, subst}
-use Rattle.std.proofs.lemmas.List.{take_rest}
-use Rattle.typst_styles.specs.Renewed.{wrapped}
-use Rattle.typst_styles.specs.declared.tokens.Token.{Token}
+use Rattle.typst_styles.proofs.Cited.{List, arith, map, subst, take_rest, wrapped, Token}
 use Rattle.typst_styles.proofs.TokenLists.{PartsIf, parts_early, parts_late}
 use Rattle.typst_styles.proofs.token_list.count_in_places.Goals as goal
 
@@ -13,6 +10,5 @@ pub returns-clause-parts : goal.returns-clause-parts
 returns-clause-parts c =
     let s = c.args.settled in
     let d = c.args.distance in
-    let ts = c.args.tokens.now in
-    parts_late s d c.args.byte ts c.count_before-count.result c.count_moved.result c.requires (omega arith) c.count_before-count.ensures.parts
-    (subst (λ (us : List Token). PartsIf c.args.byte (map (wrapped d) us) c.count_moved.result) (take_rest ts s) c.count_moved.ensures.parts)
+    parts_late s d c.args.byte _ c.count_before-count.result c.count_moved.result c.requires (omega arith) c.count_before-count.ensures.parts
+    (subst (λ (us : List Token). PartsIf c.args.byte (map (wrapped d) us) c.count_moved.result) (take_rest _ s) c.count_moved.ensures.parts)

@@ -1,5 +1,4 @@
-use Rattle.std.proofs.Common.{◌≡◌, ◌++◌, map, take, drop}
-use Rattle.typst_styles.specs.Renewed.{wrapped}
+use Rattle.typst_styles.proofs.Cited.{◌≡◌, ◌++◌, map, take, drop, wrapped}
 use Rattle.typst_styles.proofs.token_list.shift_all.Given as goal
 
 abbrev pub invariant-loop-token : goal.invariant-loop-token

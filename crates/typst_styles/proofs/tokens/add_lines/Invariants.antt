@@ -1,6 +1,4 @@
-use Rattle.std.proofs.Common.{◌≡◌, ◌++◌, ◌-◌, ◌≤◌, max}
-use Rattle.std.specs.Prelude.{slice_range, Some}
-use Rattle.typst_styles.specs.Tokens.{lines, stretch}
+use Rattle.typst_styles.proofs.Cited.{◌≡◌, ◌++◌, ◌-◌, ◌≤◌, max, lines, stretch, slice_range, Some}
 use Rattle.typst_styles.proofs.tokens.add_lines.Given as goal
 
 abbrev pub invariant-loop-at : goal.invariant-loop-at

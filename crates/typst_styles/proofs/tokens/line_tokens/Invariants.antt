@@ -1,5 +1,4 @@
-use Rattle.std.proofs.Common.{◌≡◌, ◌++◌, drop}
-use Rattle.typst_styles.specs.Tokens.{stretches}
+use Rattle.typst_styles.proofs.Cited.{◌≡◌, ◌++◌, drop, stretches}
 use Rattle.typst_styles.proofs.tokens.line_tokens.Given as goal
 
 abbrev pub invariant-loop-index : goal.invariant-loop-index

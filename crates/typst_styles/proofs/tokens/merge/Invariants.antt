@@ -1,5 +1,4 @@
-use Rattle.std.proofs.Common.{◌≡◌, ◌++◌, drop}
-use Rattle.typst_styles.specs.Tokens.{merged, merged_after, touching}
+use Rattle.typst_styles.proofs.Cited.{◌≡◌, ◌++◌, drop, merged, merged_after, touching}
 use Rattle.typst_styles.proofs.tokens.merge.Given as goal
 
 abbrev pub invariant-loop-token : goal.invariant-loop-token

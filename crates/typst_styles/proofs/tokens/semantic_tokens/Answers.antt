@@ -1,16 +1,7 @@
-use Rattle.std.proofs.Common.{◌≡◌, ap, subst, sym, ◌∙◌}
+use Rattle.typst_styles.proofs.Cited.{◌≡◌, ap, subst, sym, ◌∙◌, roles, AreOrdered, all_tokens, merged, touching, joined_root}
 use Rattle.typst_highlight.specs.Stretches as tagged
-use Rattle.typst_highlight.proofs.Outlets.{joined_root}
-use Rattle.typst_names.specs.Roles.{roles}
-use Rattle.typst_styles.specs.Tokens.{AreOrdered, all_tokens, merged, touching}
 use Rattle.typst_styles.proofs.TokenOrder.{if-ok, merged-ordered, stretches-ordered, touching-ordered}
 use Rattle.typst_styles.proofs.tokens.semantic_tokens.Goals as goal
-
-pub returns-clause-tokens : goal.returns-clause-tokens
-returns-clause-tokens c =
-    let range = c.args.within.now in
-    let same : touching range c.as_slice.result.now ≡ touching range (all_tokens c.args.text.now c.args.root.now) = ap (touching range) c.as_slice.ensures.value ∙ c.in_ok-tokens.ensures in
-    if-ok c.merge.result _ _ (λ tokens is. is ∙ ap merged same) c.merge.ensures
 
 pub returns-clause-ordered : goal.returns-clause-ordered
 returns-clause-ordered c =

@@ -1,5 +1,4 @@
-use Rattle.std.proofs.Common.{◌≡◌, ◌-◌, ◌≤◌, take}
-use Rattle.typst_highlight.specs.RootEdits.{bytes_of}
+use Rattle.typst_styles.proofs.Cited.{◌≡◌, ◌-◌, ◌≤◌, take, bytes_of}
 use Rattle.typst_styles.proofs.windows.last_edge.Given as goal
 
 abbrev pub invariant-loop-back : goal.invariant-loop-back

@@ -1,21 +1,12 @@
-use Rattle.std.proofs.Common.{◌≡◌, ◌+◌, ◌⊎◌, ℕ, List, length, take, sym, ap, subst, ◌∙◌, arith}
-use Rattle.typst_highlight.specs.RootEdits.{bytes_of}
-use Rattle.typst_tree.specs.Tree.{Forest}
-use Rattle.typst_tree.proofs.Boundaries.{kids_are}
-use Rattle.typst_styles.specs.Windows.{BeginsEdge, EndsEdge, FollowsFeed, IsLineAfter}
+use Rattle.typst_styles.proofs.Cited.{◌≡◌, ◌+◌, ◌⊎◌, ℕ, List, length, subst, arith, Forest, kids_are, BeginsEdge, EndsEdge, FollowsFeed, IsLineAfter}
 use Rattle.typst_styles.proofs.WindowEdges.{begins_before, window_is}
 use Rattle.typst_styles.proofs.windows.token_window.Goals as goal
 
 pub last_edge-first-requires : goal.last_edge-first-requires
-last_edge-first-requires c =
-    let before = c.nodes_before-count.ensures in
-    let nodes = sym (kids_are c.args.root.now c.children-nodes.result.now c.children-nodes.ensures) in
-    record { within = omega (arith, before.within, ap length nodes); bytes = before.bytes ∙ ap (λ ts. bytes_of (take c.nodes_before-count.result.0 ts)) nodes }
+last_edge-first-requires c = grind (arith, kids_are)
 
 pub edge_after-last-requires : goal.edge_after-last-requires
-edge_after-last-requires c =
-    let nodes = sym (kids_are c.args.root.now c.children-nodes.result.now c.children-nodes.ensures) in
-    c.nodes_before-count.ensures.bytes ∙ ap (λ ts. bytes_of (take c.nodes_before-count.result.0 ts)) nodes
+edge_after-last-requires c = grind (arith, kids_are)
 
 pub returns : goal.returns
 returns c =

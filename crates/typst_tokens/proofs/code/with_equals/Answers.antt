@@ -1,5 +1,4 @@
-use Rattle.std.proofs.Common.{rules}
-use Rattle.typst_tokens.specs.Code.{with_equals}
+use Rattle.typst_tokens.proofs.Cited.{rules, with_equals}
 use Rattle.typst_tokens.proofs.code.with_equals.Goals as goal
 
 pub returns-then-eat_if : goal.returns-then-eat_if

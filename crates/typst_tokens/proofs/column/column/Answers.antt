@@ -1,12 +1,5 @@
-use Rattle.std.proofs.Common.{length, ◌∙◌, sym, ap, zero-add, refl, arith}
-use Rattle.std.proofs.lemmas.Str.{IsUtf8-had}
-use Rattle.std.specs.List.{prefix_len}
-use Rattle.typst_lines.specs.Place.{Place}
-use Rattle.typst_lines.specs.Scanner.{place}
-use Rattle.typst_lines.specs.Classes.{in_line}
+use Rattle.typst_tokens.proofs.Cited.{common_steps, length, ◌∙◌, sym, ap, zero-add, refl, arith, IsUtf8-had, prefix_len, Place, place, in_line, column_at, position}
 use Rattle.typst_tokens.proofs.Columns.{same-hull, before-most, some-before, back-is, line-more, column-back, column-least, column-start, back-smaller}
-use Rattle.typst_tokens.specs.Column.{column_at}
-use Rattle.typst_tokens.specs.Sight.{position}
 use Rattle.typst_tokens.proofs.Sights.{offset-is, far-none}
 use Rattle.typst_tokens.proofs.column.column.Goals as goal
 
@@ -28,12 +21,7 @@ back-preserved c =
     let i = c.back.invariant.rest in
     let j = c.back.invariant.size in
     let most = before-most s.text.now s.cursor (IsUtf8-had _ s.utf8) s.boundary in
-    record {
-      rest = omega arith;
-      near = column-back (place s) z w c.in-Some.c c.back.invariant.near c.in-Some.ensures.last (sym c.is_newline.ensures ∙ c.if-is_newline.false) c.in-Some.ensures.moved;
-      before = omega (arith, back-smaller z c.in-Some.c c.in-Some.ensures.last, ap position c.in-Some.ensures.moved, c.back.invariant.before);
-      size = omega arith;
-    }
+    grind (arith, common_steps, column-back, back-smaller)
 
 pub overflow_add-least : goal.overflow_add-least
 overflow_add-least c =

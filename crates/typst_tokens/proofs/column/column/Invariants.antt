@@ -1,9 +1,4 @@
-use Rattle.std.proofs.Common.{◌≡◌, ◌+◌, ◌≤◌, suc, length}
-use Rattle.std.specs.List.{prefix_len}
-use Rattle.typst_lines.specs.Scanner.{place}
-use Rattle.typst_tokens.specs.Sight.{near, position}
-use Rattle.typst_tokens.specs.Column.{column_at}
-use Rattle.typst_lines.specs.Classes.{in_line}
+use Rattle.typst_tokens.proofs.Cited.{◌≡◌, ◌+◌, ◌≤◌, suc, length, prefix_len, place, near, position, column_at, in_line}
 use Rattle.typst_tokens.proofs.column.column.Given as goal
 
 abbrev pub invariant-back : goal.invariant-back

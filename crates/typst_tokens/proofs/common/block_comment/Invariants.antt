@@ -1,6 +1,4 @@
-use Rattle.std.proofs.Common.{◌≡◌, ◌≤◌, length}
-use Rattle.typst_tokens.specs.Common.{block_comment}
-use Rattle.typst_tokens.specs.Sight.{Covers, position, sight}
+use Rattle.typst_tokens.proofs.Cited.{◌≡◌, ◌≤◌, length, block_comment, Covers, position, sight}
 use Rattle.typst_tokens.proofs.Comments.{rest}
 use Rattle.typst_tokens.proofs.common.block_comment.Given as goal
 

@@ -1,7 +1,4 @@
-use Rattle.std.proofs.Common.{◌≡◌, ◌+◌, ◌-◌, length, false}
-use Rattle.std.specs.Str.{chars}
-use Rattle.typst_lines.specs.Scanner.{place}
-use Rattle.typst_tokens.specs.Common.{line_ends}
+use Rattle.typst_tokens.proofs.Cited.{◌≡◌, ◌+◌, ◌-◌, length, false, chars, place, line_ends}
 use Rattle.typst_tokens.proofs.common.count_newlines.Given as goal
 
 abbrev pub invariant-loop-c : goal.invariant-loop-c

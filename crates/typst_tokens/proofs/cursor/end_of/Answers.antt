@@ -1,5 +1,4 @@
-use Rattle.std.proofs.Common.{◌≡◌, ap, arith, is_none, true, false}
-use Rattle.std.proofs.lemmas.Str.{IsUtf8-had}
+use Rattle.typst_tokens.proofs.Cited.{◌≡◌, ap, arith, is_none, true, false, IsUtf8-had}
 use Rattle.typst_tokens.proofs.Sights.{offset-is}
 use Rattle.typst_tokens.proofs.cursor.end_of.Goals as goal
 

@@ -1,11 +1,7 @@
-use Rattle.std.proofs.Common.{◌+◌, ◌∙◌, max, refl, sym, ap, subst, arith}
-use Rattle.typst_lines.specs.Scanner.{place}
+use Rattle.typst_tokens.proofs.Cited.{◌+◌, ◌∙◌, max, sym, ap, subst, arith, place}
 use Rattle.typst_tokens.proofs.Sights.{far-read}
 use Rattle.typst_tokens.proofs.Words.{Looking, looking-on, looking-off}
 use Rattle.typst_tokens.proofs.cursor.see_word.Goals as goal
-
-pub loop-b-init : goal.loop-b-init
-loop-b-init c = record { looking = record { found = refl; place = refl; reach = refl }; text = refl }
 
 pub returns-then-not-is-clause-found : goal.returns-then-not-is-clause-found
 returns-then-not-is-clause-found c =

@@ -1,5 +1,4 @@
-use Rattle.std.proofs.Common.{◌≡◌}
-use Rattle.typst_lines.specs.Scanner.{place}
+use Rattle.typst_tokens.proofs.Cited.{◌≡◌, place}
 use Rattle.typst_tokens.proofs.Words.{Looking}
 use Rattle.typst_tokens.proofs.cursor.see_word.Given as goal
 

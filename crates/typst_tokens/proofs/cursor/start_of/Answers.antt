@@ -1,5 +1,4 @@
-use Rattle.std.proofs.Common.{arith}
-use Rattle.std.proofs.lemmas.Str.{IsUtf8-had}
+use Rattle.typst_tokens.proofs.Cited.{arith, IsUtf8-had}
 use Rattle.typst_tokens.proofs.Sights.{offset-is}
 use Rattle.typst_tokens.proofs.cursor.start_of.Goals as goal
 

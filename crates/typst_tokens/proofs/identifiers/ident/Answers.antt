@@ -1,7 +1,6 @@
-use Rattle.std.proofs.Common.{sym, ◌∙◌}
+use Rattle.typst_tokens.proofs.Cited.{sym, ◌∙◌, plain}
 use Rattle.typst_tokens.proofs.NameSteps.{ident-keyword, ident-name}
 use Rattle.typst_tokens.proofs.identifiers.ident.Goals as goal
-use Rattle.typst_tokens.specs.Token.{plain}
 
 pub returns-in-Some : goal.returns-in-Some
 returns-in-Some g c =

@@ -1,5 +1,4 @@
-use Rattle.std.proofs.Common.{rules}
-use Rattle.typst_tokens.specs.Identifiers.{keyword_or_name}
+use Rattle.typst_tokens.proofs.Cited.{rules, keyword_or_name}
 use Rattle.typst_tokens.proofs.identifiers.keyword_or_name.Goals as goal
 
 pub returns : goal.returns

@@ -1,5 +1,4 @@
-use Rattle.std.proofs.Common.{rules}
-use Rattle.typst_tokens.specs.Invalid.{invalid}
+use Rattle.typst_tokens.proofs.Cited.{rules, invalid}
 use Rattle.typst_tokens.proofs.invalid.invalid.Goals as goal
 
 pub returns-then-eq : goal.returns-then-eq

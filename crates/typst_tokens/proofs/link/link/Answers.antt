@@ -1,6 +1,4 @@
-use Rattle.std.proofs.Common.{sym, ap, ◌∙◌}
-use Rattle.std.specs.Str.{chars}
-use Rattle.typst_lines.specs.Scanner.{place}
+use Rattle.typst_tokens.proofs.Cited.{sym, ap, ◌∙◌, chars, place}
 use Rattle.typst_tokens.proofs.Links.{ended, link-is}
 use Rattle.typst_tokens.proofs.link.link.Goals as goal
 

@@ -1,5 +1,4 @@
-use Rattle.std.proofs.Common.{rules}
-use Rattle.typst_tokens.specs.Markup.{emphasis}
+use Rattle.typst_tokens.proofs.Cited.{rules, emphasis}
 use Rattle.typst_tokens.proofs.markup.emphasis.Goals as goal
 
 pub returns-then-is_word-2 : goal.returns-then-is_word-2

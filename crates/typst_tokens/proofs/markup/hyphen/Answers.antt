@@ -1,5 +1,4 @@
-use Rattle.std.proofs.Common.{rules}
-use Rattle.typst_tokens.specs.Markup.{hyphen}
+use Rattle.typst_tokens.proofs.Cited.{rules, hyphen}
 use Rattle.typst_tokens.proofs.markup.hyphen.Goals as goal
 
 pub returns-in-Some : goal.returns-in-Some

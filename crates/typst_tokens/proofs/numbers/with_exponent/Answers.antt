@@ -1,6 +1,4 @@
-use Rattle.std.proofs.Common.{sym, ◌∙◌}
-use Rattle.std.specs.Str.{chars}
-use Rattle.typst_lines.proofs.Empty.{none-is}
+use Rattle.typst_tokens.proofs.Cited.{sym, ◌∙◌, chars, none-is}
 use Rattle.typst_tokens.proofs.Digits.{exponent-is}
 use Rattle.typst_tokens.proofs.numbers.with_exponent.Goals as goal
 

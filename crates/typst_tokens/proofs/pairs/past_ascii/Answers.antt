@@ -1,16 +1,6 @@
-use Rattle.std.proofs.Common.{◌≡◌, ◌+◌, ◌∙◌, List, ℕ, refl, sym, subst, ap, length, slice_index, arith, true}
-use Rattle.std.specs.Str.{IsUtf8}
-use Rattle.typst_tokens.specs.Pairs.{bytes_pass, either, four_pass}
+use Rattle.typst_tokens.proofs.Cited.{◌≡◌, ◌+◌, List, ℕ, refl, sym, subst, ap, length, slice_index, arith, true, IsUtf8, bytes_pass, either, four_pass}
 use Rattle.typst_tokens.proofs.PairRuns.{runs-on, runs-on-four}
 use Rattle.typst_tokens.proofs.pairs.past_ascii.Goals as goal
-
-pub fours-init : goal.fours-init
-fours-init g c =
-    record {
-      bytes = c.as_bytes-bytes.ensures.value ∙ c.string.ensures;
-      runs = rw c.cursor-at.ensures (record { boundary = c.args.s.now.boundary; past = refl; shorter = omega arith });
-      text = refl;
-    }
 
 pub fours-preserved : goal.fours-preserved
 fours-preserved g c =

@@ -1,6 +1,4 @@
-use Rattle.std.proofs.Common.{◌≡◌, ◌-◌, length}
-use Rattle.typst_lines.specs.Scanner.{place}
-use Rattle.typst_tokens.specs.Pairs.{either}
+use Rattle.typst_tokens.proofs.Cited.{◌≡◌, ◌-◌, length, place, either}
 use Rattle.typst_tokens.proofs.PairRuns.{RunsOn}
 use Rattle.typst_tokens.proofs.pairs.past_ascii.Given as goal
 

@@ -1,7 +1,4 @@
-use Rattle.std.proofs.Common.{◌≡◌, ◌∙◌, ap, sym, false, arith}
-use Rattle.typst_lines.specs.Place.{passes, scout}
-use Rattle.typst_lines.specs.Scanner.{place}
-use Rattle.typst_tokens.specs.Pairs.{either, past_pairs}
+use Rattle.typst_tokens.proofs.Cited.{◌≡◌, ◌∙◌, ap, sym, false, arith, passes, scout, place, either, past_pairs}
 use Rattle.typst_tokens.proofs.PairRuns.{pairs-past, past-stops, run-ends, run-on, run-shortens}
 use Rattle.typst_tokens.proofs.pairs.past_pairs.Goals as goal
 
@@ -17,12 +14,7 @@ returns-then-not-passes-clause-moved g c =
     ∙ ap (past_pairs (either alone pairs)) e ∙ pairs-past alone pairs z ∙ c.past_ascii.ensures.past ∙ c.runs.invariant.past
 
 pub runs-smaller : goal.runs-smaller
-runs-smaller g c =
-    let alone = g.P.CharSet.members c.args.set.now in
-    let pairs = g.P.PairSet.before c.args.set.now in
-    let less = run-shortens alone pairs c.eat-next.result c.eat.result (place c.past_ascii.new.s) (place c.eat_while.new.self) (place c.eat-next.new.self) c.eat_while.ensures.moved c.eat-next.ensures.next c.eat-next.ensures.moved
-    (sym c.passes.ensures ∙ c.if-not-passes.false) in
-    omega (arith, less, c.past_ascii.ensures.shorter)
+runs-smaller g c = grind (arith, run-shortens)
 
 pub runs-preserved : goal.runs-preserved
 runs-preserved g c =

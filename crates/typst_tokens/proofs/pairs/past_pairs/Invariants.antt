@@ -1,6 +1,4 @@
-use Rattle.std.proofs.Common.{◌≡◌, length}
-use Rattle.typst_lines.specs.Scanner.{place}
-use Rattle.typst_tokens.specs.Pairs.{either, past_pairs}
+use Rattle.typst_tokens.proofs.Cited.{◌≡◌, length, place, either, past_pairs}
 use Rattle.typst_tokens.proofs.pairs.past_pairs.Given as goal
 
 abbrev pub invariant-runs : goal.invariant-runs

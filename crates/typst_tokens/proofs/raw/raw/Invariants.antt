@@ -1,6 +1,4 @@
-use Rattle.std.proofs.Common.{◌≡◌, ◌≤◌, length}
-use Rattle.typst_tokens.specs.Raw.{raw}
-use Rattle.typst_tokens.specs.Sight.{Covers, position, sight}
+use Rattle.typst_tokens.proofs.Cited.{◌≡◌, ◌≤◌, length, Covers, position, sight, raw}
 use Rattle.typst_tokens.proofs.RawTexts.{rest}
 use Rattle.typst_tokens.proofs.raw.raw.Given as goal
 

@@ -1,7 +1,4 @@
-use Rattle.std.proofs.Common.{◌≡◌, ◌<◌, ◌^◌, ◌-◌, length}
-use Rattle.std.specs.Str.{chars}
-use Rattle.typst_lines.specs.Scanner.{place}
-use Rattle.typst_tokens.specs.Characters.{number}
+use Rattle.typst_tokens.proofs.Cited.{◌≡◌, ◌<◌, ◌^◌, ◌-◌, length, chars, place, number}
 use Rattle.typst_tokens.proofs.SpelledNumbers.{number_from}
 use Rattle.typst_tokens.proofs.sets.number.Given as goal
 

@@ -1,6 +1,4 @@
-use Rattle.std.proofs.Common.{◌≡◌, length}
-use Rattle.typst_tokens.specs.Strings.{string}
-use Rattle.typst_tokens.specs.Sight.{Covers, sight}
+use Rattle.typst_tokens.proofs.Cited.{◌≡◌, length, string, Covers, sight}
 use Rattle.typst_tokens.proofs.StringSteps.{rest}
 use Rattle.typst_tokens.proofs.strings.string.Given as goal
 

@@ -1,6 +1,4 @@
-use Rattle.std.proofs.Common.{◌∙◌, ap, sym, codes, rules}
-use Rattle.typst_tokens.specs.Sight.{regard}
-use Rattle.typst_tokens.specs.Text.{text_step}
+use Rattle.typst_tokens.proofs.Cited.{◌∙◌, ap, sym, codes, regard, text_step}
 use Rattle.typst_tokens.proofs.Texts.{two-words}
 use Rattle.typst_tokens.proofs.text.goes_on.Goals as goal
 
@@ -12,6 +10,3 @@ returns-then-not-word_after g c =
     let second = c.word_after-then-not-word_after in
     ap (λ x. regard (text_step k x) v) c.in-h.is
     ∙ two-words (codes "ttp://") (codes "ttps://") v first.new.self second.new.self second.result (sym first.ensures.found ∙ c.if-not-word_after.true) first.ensures.sight second.ensures.found second.ensures.sight
-
-pub returns-in-Some-second : goal.returns-in-Some-second
-returns-in-Some-second c = search rules

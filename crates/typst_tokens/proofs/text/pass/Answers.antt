@@ -1,9 +1,4 @@
-use Rattle.std.proofs.Common.{◌≡◌, sym, ap, subst, ◌∙◌, length, Some, arith}
-use Rattle.typst_lines.specs.Place.{scout}
-use Rattle.typst_tokens.specs.Memory.Memory.{blank}
-use Rattle.typst_tokens.specs.Reader.Turn.{go}
-use Rattle.typst_tokens.specs.Sight.{Covers, Sight, saw, sight, went}
-use Rattle.typst_tokens.specs.Pairs.{went_past_pairs}
+use Rattle.typst_tokens.proofs.Cited.{◌≡◌, sym, ap, subst, ◌∙◌, length, Some, arith, scout, blank, go, Covers, Sight, saw, sight, went, went_past_pairs}
 use Rattle.typst_tokens.proofs.PairRuns.{covers-pairs, pairs-seen}
 use Rattle.typst_tokens.proofs.Sights.{covers-went}
 use Rattle.typst_tokens.proofs.Texts.{flowing, rest, rest-past, rest-on, rest-off, rest-end, rest-text, rest-place, rest-covers, rest-shortens}
@@ -59,8 +54,4 @@ loop-next-preserved g c =
     }
 
 pub returns : goal.returns
-returns g c =
-    let k = g.C.Classes.classes c.args.classes.now in
-    let v = c.loop-next.s in
-    let i = c.loop-next.invariant in
-    sym i.reads ∙ rest-end k v i.covers i.seen (sym c.in_default.is ∙ i.next)
+returns g c = grind (arith, rest-end)

@@ -1,7 +1,4 @@
-use Rattle.std.proofs.Common.{◌≡◌, length}
-use Rattle.typst_lines.specs.Place.{scout}
-use Rattle.typst_tokens.specs.Sight.{Covers, saw, sight}
-use Rattle.typst_tokens.specs.Text.{text}
+use Rattle.typst_tokens.proofs.Cited.{◌≡◌, length, scout, Covers, saw, sight, text}
 use Rattle.typst_tokens.proofs.Texts.{rest}
 use Rattle.typst_tokens.proofs.text.pass.Given as goal
 

@@ -1,7 +1,6 @@
-use Rattle.std.proofs.Common.{◌≡◌, map, ◌∙◌, sym}
+use Rattle.typst_tree.proofs.Cited.{◌≡◌, map, ◌∙◌, sym, map-id}
 use Rattle.std.proofs.lemmas.Iterator.{items_from_drains}
 use Rattle.std.proofs.lemmas.Iterator.Adapters.{YieldsList-from_vec}
-use Rattle.std.proofs.lemmas.List.{map-id}
 use Rattle.typst_tree.proofs.items.splice.Goals as goal
 
 pub returns-clause-ok : goal.returns-clause-ok

@@ -1,6 +1,4 @@
-use Rattle.std.proofs.Common.{◌≡◌, ℕ, ◌+◌, ◌≤◌, ◌^◌, get_or, arith, rules}
-use Rattle.std.proofs.Math.ListN.{set}
-use Rattle.typst_tree.specs.Tree.{Tree}
+use Rattle.typst_tree.proofs.Cited.{◌≡◌, ℕ, ◌+◌, ◌≤◌, ◌^◌, get_or, arith, rules, set, Tree}
 use Rattle.typst_tree.proofs.Numbering.{Next, next_fits, numbered_more}
 use Rattle.typst_tree.proofs.numbers.number_all.Goals as goal
 

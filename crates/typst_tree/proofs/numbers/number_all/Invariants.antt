@@ -1,6 +1,4 @@
-use Rattle.std.proofs.Common.{◌≡◌, ℕ, ◌+◌, ◌*◌, ◌++◌, ◌≤◌, take, drop, get_or}
-use Rattle.typst_tree.specs.Tree.{Tree, forest, count}
-use Rattle.typst_tree.specs.Numbers.{numbered_list}
+use Rattle.typst_tree.proofs.Cited.{◌≡◌, ℕ, ◌+◌, ◌*◌, ◌++◌, ◌≤◌, take, drop, get_or, Tree, forest, count, numbered_list}
 use Rattle.typst_tree.proofs.numbers.number_all.Given as goal
 
 abbrev pub invariant-loop-kid : goal.invariant-loop-kid

@@ -1,9 +1,4 @@
-use Rattle.std.proofs.Common.{◌+◌, ◌++◌, get_or, inl, inr, arith, refl, ap, sym, subst}
-use Rattle.std.specs.Prelude.{option_to_list}
-use Rattle.std.proofs.lemmas.Bool.{cases_eq}
-use Rattle.typst_tree.specs.Tree.{count}
-use Rattle.typst_tree.specs.Order.{AreInOrder, numbers_of}
-use Rattle.typst_tree.specs.Ordered.{number_at}
+use Rattle.typst_tree.proofs.Cited.{◌+◌, ◌++◌, get_or, inl, inr, arith, refl, ap, sym, subst, option_to_list, cases_eq, count, AreInOrder, numbers_of, number_at}
 use Rattle.typst_tree.proofs.OrderBelow.{nodes_within, order_own, order_child, order_at, order_node_but}
 use Rattle.typst_tree.proofs.order.+rises_to.Goals as goal
 
@@ -18,9 +13,6 @@ returns-then-not-rises_to t c = (
   λ h. absurd (cc),
   λ e. c.if-not-rises_to.ensures.1 (order_child c.loop-node.node.now c.children-row.result.now c.loop-node.limit c.number_at-in-loop-i.result c.loop-i.i c.index-row-i.result c.children-row.ensures c.index-row-i.is (omega arith) c.number_at-in-loop-i.ensures (c.loop-node.invariant.there e)),
 )
-
-pub loop-i-preserved-then-i-last : goal.loop-i-preserved-then-i-last
-loop-i-preserved-then-i-last t c = λ k d p q. c.loop-i.invariant k d (omega (arith, p, q, c.if-i-last.true)) q
 
 pub loop-i-preserved : goal.loop-i-preserved
 loop-i-preserved t c = λ k d p q.
@@ -47,14 +39,12 @@ loop-node-smaller t c = grind (arith, nodes_within)
 
 pub loop-node-preserved : goal.loop-node-preserved
 loop-node-preserved t c =
-    let xs = c.children-row.result.now in
-    let i = c.last_to_go-last.result in
     record {
-      size = omega (arith, nodes_within xs i _ c.index-row-last.is (omega arith), ap count c.children-row.ensures, c.loop-node.invariant.size);
-      there = λ e. order_child c.loop-node.node.now xs c.loop-node.limit c.number_at-limit.result i c.index-row-last.result c.children-row.ensures c.index-row-last.is (omega arith) c.number_at-limit.ensures (c.loop-node.invariant.there e);
+      size = omega (arith, nodes_within c.children-row.result.now _ _ c.index-row-last.is (omega arith), ap count c.children-row.ensures, c.loop-node.invariant.size);
+      there = λ e. order_child c.loop-node.node.now _ c.loop-node.limit c.number_at-limit.result _ c.index-row-last.result c.children-row.ensures c.index-row-last.is (omega arith) c.number_at-limit.ensures (c.loop-node.invariant.there e);
       back = λ e.
-          c.loop-node.invariant.back (order_node_but c.loop-node.node.now xs c.loop-node.limit i c.children-row.ensures
+          c.loop-node.invariant.back (order_node_but c.loop-node.node.now _ c.loop-node.limit _ c.children-row.ensures
           (rw c.number_at.ensures at (c.if-not-is_before.ensures.0 refl))
           (λ k d p q. c.loop-i.invariant k d (omega (arith, p)) q)
-          (λ d p. order_at xs c.loop-node.limit c.number_at-limit.result i c.index-row-last.result d c.index-row-last.is p c.number_at-limit.ensures e));
+          (λ d p. order_at _ c.loop-node.limit c.number_at-limit.result _ c.index-row-last.result d c.index-row-last.is p c.number_at-limit.ensures e));
     }

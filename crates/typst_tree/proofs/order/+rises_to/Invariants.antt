@@ -1,8 +1,4 @@
-use Rattle.std.proofs.Common.{◌≢◌, ℕ, ◌+◌, ◌<◌, ◌≤◌, ◌++◌, get_or}
-use Rattle.std.specs.Prelude.{option_to_list}
-use Rattle.typst_tree.specs.Tree.{Tree, nodes}
-use Rattle.typst_tree.specs.Order.{AreInOrder, numbers_of}
-use Rattle.typst_tree.specs.Ordered.{number_at}
+use Rattle.typst_tree.proofs.Cited.{◌≢◌, ℕ, ◌+◌, ◌<◌, ◌≤◌, ◌++◌, get_or, option_to_list, Tree, nodes, AreInOrder, numbers_of, number_at}
 use Rattle.typst_tree.proofs.order.+rises_to.Given as goal
 
 abbrev pub decreases-rises_to : goal.decreases-rises_to

@@ -1,6 +1,4 @@
-use Rattle.std.proofs.Common.{◌≡◌, ◌-◌, ◌<◌, ◌≤◌, length, drop, true, false}
-use Rattle.typst_tree.specs.Tree.{forest}
-use Rattle.typst_tree.specs.Ordered.{begins_past}
+use Rattle.typst_tree.proofs.Cited.{◌≡◌, ◌-◌, ◌<◌, ◌≤◌, length, drop, true, false, forest, begins_past}
 use Rattle.typst_tree.proofs.order.last_up_to.Given as goal
 
 abbrev pub decreases-loop-high : goal.decreases-loop-high

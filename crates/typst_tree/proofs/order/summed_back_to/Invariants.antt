@@ -1,5 +1,4 @@
-use Rattle.std.proofs.Common.{◌≡◌, ◌+◌, ◌≤◌, take, length}
-use Rattle.typst_tree.specs.Tree.{forest, count, joined}
+use Rattle.typst_tree.proofs.Cited.{◌≡◌, ◌+◌, ◌≤◌, take, length, forest, count, joined}
 use Rattle.typst_tree.proofs.order.summed_back_to.Given as goal
 
 abbrev pub decreases-loop-i : goal.decreases-loop-i

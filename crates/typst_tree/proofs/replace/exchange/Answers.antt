@@ -1,8 +1,4 @@
-use Rattle.std.proofs.lemmas.Grind.{common_steps}
-use Rattle.std.proofs.Common.{◌+◌, ◌-◌, arith, sym, ◌∙◌, rules}
-use Rattle.std.proofs.lemmas.Bool.Decides.{nat_tests}
-use Rattle.typst_tree.specs.Tree.{forest, count}
-use Rattle.typst_tree.specs.Replace.{IsFit}
+use Rattle.typst_tree.proofs.Cited.{common_steps, ◌+◌, ◌-◌, arith, sym, ◌∙◌, nat_tests, forest, count, IsFit}
 use Rattle.typst_tree.proofs.Stretches.{cut, count-append, exchanged_some, from_ok}
 use Rattle.typst_tree.proofs.replace.exchange.Goals as goal
 
@@ -23,6 +19,3 @@ returns-clause-ok c =
     (from_ok c.splice.result _ c.splice.ensures.ok (sym c.is_err.ensures.value ∙ c.if-is_err.false))
     (omega (arith, c.len.ensures, c.args.fresh.ok.0)) in
     grind (arith, common_steps, nat_tests, exchanged_some)
-
-pub returns-in_default-clause-err : goal.returns-in_default-clause-err
-returns-in_default-clause-err c = search rules

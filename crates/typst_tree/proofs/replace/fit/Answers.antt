@@ -1,6 +1,4 @@
-use Rattle.std.proofs.lemmas.Grind.{common_steps}
-use Rattle.std.proofs.Common.{arith, sym}
-use Rattle.typst_tree.specs.Tree.{forest, count}
+use Rattle.typst_tree.proofs.Cited.{common_steps, arith, sym, forest, count}
 use Rattle.typst_tree.proofs.Numbering.{some_nodes}
 use Rattle.typst_tree.proofs.Stretches.{growth_has_room, le_from}
 use Rattle.typst_tree.proofs.replace.fit.Goals as goal

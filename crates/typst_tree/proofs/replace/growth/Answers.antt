@@ -1,5 +1,4 @@
-use Rattle.std.proofs.lemmas.Grind.{common_steps}
-use Rattle.std.proofs.Common.{arith}
+use Rattle.typst_tree.proofs.Cited.{arith}
 use Rattle.typst_tree.proofs.Growth.{growth_found, growth_ends, growth_goes}
 use Rattle.typst_tree.proofs.replace.growth.Goals as goal
 
@@ -8,9 +7,6 @@ returns-then-has_room c = grind (arith, growth_found)
 
 pub returns-then-is_all : goal.returns-then-is_all
 returns-then-is_all c = grind (arith, growth_ends)
-
-pub overflow_mul-by : goal.overflow_mul-by
-overflow_mul-by c = grind (arith, common_steps)
 
 pub loop-preserved : goal.loop-preserved
 loop-preserved c = grind (arith, growth_goes)

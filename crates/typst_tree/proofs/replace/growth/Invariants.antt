@@ -1,6 +1,4 @@
-use Rattle.std.proofs.Common.{◌≡◌, ◌-◌}
-use Rattle.typst_tree.specs.Tree.{forest, count}
-use Rattle.typst_tree.specs.Replace.{growth}
+use Rattle.typst_tree.proofs.Cited.{◌≡◌, ◌-◌, forest, count, growth}
 use Rattle.typst_tree.proofs.replace.growth.Given as goal
 
 abbrev pub invariant-loop : goal.invariant-loop

@@ -1,5 +1,4 @@
-use Rattle.std.proofs.Common.{◌≡◌, take, false}
-use Rattle.typst_tree.specs.Tree.{forest, have_diagnostics}
+use Rattle.typst_tree.proofs.Cited.{◌≡◌, take, false, forest, have_diagnostics}
 use Rattle.typst_tree.proofs.replace.have_diagnostics.Given as goal
 
 abbrev pub invariant-loop-kid : goal.invariant-loop-kid

@@ -1,5 +1,4 @@
-use Rattle.std.proofs.Common.{arith}
-use Rattle.std.proofs.lemmas.List.{get_or-reverse, length-reverse}
+use Rattle.typst_tree.proofs.Cited.{arith, get_or-reverse, length-reverse}
 use Rattle.typst_tree.proofs.SameTree.{front_more, front_none, front_end, not_same, same_from_bare}
 use Rattle.typst_tree.proofs.replace.shared_back.Goals as goal
 

@@ -1,5 +1,4 @@
-use Rattle.std.proofs.Common.{◌≡◌, ◌+◌, drop, reverse}
-use Rattle.typst_tree.specs.Same.{front}
+use Rattle.typst_tree.proofs.Cited.{◌≡◌, ◌+◌, drop, reverse, front}
 use Rattle.typst_tree.proofs.replace.shared_back.Given as goal
 
 abbrev pub invariant-loop-i : goal.invariant-loop-i

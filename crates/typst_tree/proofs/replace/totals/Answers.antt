@@ -1,5 +1,4 @@
-use Rattle.std.proofs.lemmas.Grind.{common_steps}
-use Rattle.std.proofs.Common.{arith}
+use Rattle.typst_tree.proofs.Cited.{common_steps, arith}
 use Rattle.typst_tree.proofs.ChildlessLeaves.{whole_more}
 use Rattle.typst_tree.proofs.Marks.{have_more}
 use Rattle.typst_tree.proofs.replace.totals.Goals as goal

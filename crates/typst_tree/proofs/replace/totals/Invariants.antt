@@ -1,6 +1,4 @@
-use Rattle.std.proofs.Common.{◌≡◌, ◌+◌, ◌<◌, ◌^◌, take, drop, length}
-use Rattle.typst_tree.specs.Order.{IsWholeForest}
-use Rattle.typst_tree.specs.Tree.{forest, joined, count, saturated, have_diagnostics}
+use Rattle.typst_tree.proofs.Cited.{◌≡◌, ◌+◌, ◌<◌, ◌^◌, take, drop, length, IsWholeForest, forest, joined, count, saturated, have_diagnostics}
 use Rattle.typst_tree.proofs.replace.totals.Given as goal
 
 abbrev pub invariant-loop-kid : goal.invariant-loop-kid

@@ -1,6 +1,4 @@
-use Rattle.std.proofs.Common.{◌+◌, ap, arith, drop, drop_of_length-le, sym, ◌∙◌}
-use Rattle.typst_tree.specs.Tree.{forest, preorder}
-use Rattle.typst_tree.specs.Walks.{first_at, holds_byte}
+use Rattle.typst_tree.proofs.Cited.{◌+◌, ap, arith, drop, drop_of_length-le, sym, ◌∙◌, forest, preorder, first_at, holds_byte}
 use Rattle.typst_tree.proofs.PassesOver.{byte_below, byte_first, byte_next, byte_none}
 use Rattle.typst_tree.proofs.Rows.{Over, over, passed_front}
 use Rattle.typst_tree.proofs.WalksInPreorder.{turn}

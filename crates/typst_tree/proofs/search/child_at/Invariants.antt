@@ -1,7 +1,4 @@
-use Rattle.std.proofs.Common.{◌≡◌, ◌+◌, ◌-◌, drop, length}
-use Rattle.typst_tree.specs.Tree.{forest, preorder, saturated}
-use Rattle.typst_tree.specs.Passed.{IsPassed}
-use Rattle.typst_tree.specs.Walks.{first_at, holds_byte}
+use Rattle.typst_tree.proofs.Cited.{◌≡◌, ◌+◌, ◌-◌, drop, length, forest, preorder, saturated, IsPassed, first_at, holds_byte}
 use Rattle.typst_tree.proofs.search.child_at.Given as goal
 
 abbrev pub decreases-loop-at : goal.decreases-loop-at

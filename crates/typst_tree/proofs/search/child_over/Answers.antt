@@ -1,15 +1,7 @@
-use Rattle.std.proofs.lemmas.Grind.{common_steps}
-use Rattle.std.proofs.Common.{ap, arith}
-use Rattle.typst_tree.specs.Tree.{nodes}
-use Rattle.typst_tree.proofs.Rows.{Over, over, passed_inside, passed_none}
+use Rattle.typst_tree.proofs.Cited.{ap, arith, nodes}
+use Rattle.typst_tree.proofs.Rows.{Over, over, passed_inside}
 use Rattle.typst_tree.proofs.search.child_over.Goals as goal
 use Rattle.typst_tree.proofs.search.child_over.Goals.{After-index-row-at}
-
-pub loop-at-init : goal.loop-at-init
-loop-at-init c = grind (arith, passed_none)
-
-pub bounds-row-at : goal.bounds-row-at
-bounds-row-at c = grind (arith, common_steps)
 
 -- the child that is looked at
 here : (c : After-index-row-at) → Over c.args.over.node.now c.args.over.number c.args.over.offset c.children-row.result.now c.loop-at.at.index c.loop-at.at.number c.loop-at.at.offset c.index-row-at.result
@@ -19,9 +11,6 @@ here c =
 
 pub overflow_add-at : goal.overflow_add-at
 overflow_add-at c = omega (arith, c.descendants.ensures, (here (goal.at.overflow_add-at c).After-index-row-at).fits, c.requires.counted)
-
-pub behind-at-requires-clause-counted : goal.behind-at-requires-clause-counted
-behind-at-requires-clause-counted c = omega (arith, (here (goal.at.behind-at-requires-clause-counted c).After-index-row-at).fits, c.requires.counted)
 
 pub returns-then-wanted-at : goal.returns-then-wanted-at
 returns-then-wanted-at c =

@@ -1,6 +1,4 @@
-use Rattle.std.proofs.Common.{◌+◌, ◌-◌, ◌≤◌, length}
-use Rattle.typst_tree.specs.Tree.{saturated}
-use Rattle.typst_tree.specs.Passed.{IsPassed}
+use Rattle.typst_tree.proofs.Cited.{◌+◌, ◌-◌, ◌≤◌, length, saturated, IsPassed}
 use Rattle.typst_tree.proofs.search.child_over.Given as goal
 
 abbrev pub decreases-loop-at : goal.decreases-loop-at

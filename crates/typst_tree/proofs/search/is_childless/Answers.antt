@@ -1,5 +1,4 @@
-use Rattle.std.proofs.Common.{ap, sym, ◌∙◌}
-use Rattle.typst_tree.specs.Walks.{is_childless}
+use Rattle.typst_tree.proofs.Cited.{ap, sym, ◌∙◌, is_childless}
 use Rattle.typst_tree.proofs.SingleNodes.{childless_forest}
 use Rattle.typst_tree.proofs.search.is_childless.Goals as goal
 

@@ -1,15 +1,10 @@
-use Rattle.std.proofs.Common.{◌≡◌, ◌+◌, ap, sym, ◌∙◌, arith, length, take, drop, get_or}
-use Rattle.std.proofs.lemmas.List.{take-append-drop}
-use Rattle.typst_tree.specs.Tree.{nodes, forest, count, joined, text_of, saturated}
+use Rattle.typst_tree.proofs.Cited.{◌≡◌, ◌+◌, ap, sym, ◌∙◌, arith, length, take, drop, get_or, take-append-drop, nodes, forest, count, joined, text_of, saturated}
 use Rattle.typst_tree.proofs.PassesOver.{no_byte_above}
 use Rattle.typst_tree.proofs.Stretches.{count-append}
 use Rattle.typst_tree.proofs.Rows.{Prior, first_of_row, prior}
 use Rattle.typst_tree.proofs.WalksInPreorder.{turn}
 use Rattle.typst_tree.proofs.search.passed_by_turns.Goals as goal
 use Rattle.typst_tree.proofs.search.passed_by_turns.Goals.{After-index-row-index}
-
-pub returns-then-byte-next-clause-nothing : goal.returns-then-byte-next-clause-nothing
-returns-then-byte-next-clause-nothing c = rw (sym c.front-front.ensures.offset) c.loop-tree.invariant.nothing
 
 pub returns-then-begin-byte-clause-nothing : goal.returns-then-begin-byte-clause-nothing
 returns-then-begin-byte-clause-nothing c = grind (arith, no_byte_above)

@@ -1,7 +1,4 @@
-use Rattle.std.proofs.Common.{◌≡◌, ◌+◌, ◌^◌, ◌<◌, ◌-◌, None, length, take, drop}
-use Rattle.typst_tree.specs.Tree.{forest, count, preorder, joined}
-use Rattle.typst_tree.specs.Passed.{IsPassed}
-use Rattle.typst_tree.specs.Walks.{first_at, holds_byte}
+use Rattle.typst_tree.proofs.Cited.{◌≡◌, ◌+◌, ◌^◌, ◌<◌, ◌-◌, None, length, take, drop, forest, count, preorder, joined, IsPassed, first_at, holds_byte}
 use Rattle.typst_tree.proofs.search.passed_by_turns.Given as goal
 
 abbrev pub invariant-loop-tree : goal.invariant-loop-tree

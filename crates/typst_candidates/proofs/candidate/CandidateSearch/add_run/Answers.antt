@@ -1,20 +1,7 @@
-use Rattle.std.proofs.Common.{◌≡◌, ◌++◌, ◌≤◌, ℕ, List, None, length, take, ap, sym, subst, ◌∙◌, arith}
-use Rattle.std.specs.Prelude.{map}
-use Rattle.std.proofs.lemmas.List.{append-nil, length-map, take_all}
-use Rattle.typst_candidates.specs.Candidates.{Candidate}
-use Rattle.typst_candidates.specs.Edges.{IsRun, bytes_of, pieces_at, spelled, within}
-use Rattle.typst_candidates.specs.Stops.{run_of}
+use Rattle.typst_candidates.proofs.Cited.{◌≡◌, ℕ, List, length, ap, sym, subst, ◌∙◌, arith, length-map, IsRun, bytes_of, pieces_at, spelled, within, map}
 use Rattle.typst_candidates.proofs.Found.{fits_of}
 use Rattle.typst_candidates.proofs.Stops.{run-added}
 use Rattle.typst_candidates.proofs.candidate.CandidateSearch.add_run.Goals as goal
-
-pub returns-in_default-clause-found : goal.returns-in_default-clause-found
-returns-in_default-clause-found c = λ path.
-    let es = c.args.self.now.records.now.units.entries in
-    let xs : List Candidate = map (spelled path) c.args.found.now.items.items in
-    let run_is : pieces_at es c.args.run ≡ None = subst (IsRun c.args.self.now.window (pieces_at es c.args.run)) c.in_default.is c.in_ok-cuts.ensures in
-    let room : length xs ≤ c.args.found.now.most = omega (arith, c.requires.room, length-map c.args.found.now.items.items (spelled path)) in
-    sym (take_all c.args.found.now.most xs room) ∙ ap (take c.args.found.now.most) (sym (append-nil xs)) ∙ (λ k. take c.args.found.now.most (xs ++ run_of path c.args.stop (sym run_is k)))
 
 pub add_pieces-requires-clause-fits : goal.add_pieces-requires-clause-fits
 add_pieces-requires-clause-fits c = fits_of c.args.stop.at c.of-children.result.at c.args.stop.node.now c.of-children.result.kids.now c.of-children.ensures.kids c.of-children.ensures.at c.args.stop.fits

@@ -1,35 +1,11 @@
-use Rattle.std.proofs.Common.{◌≡◌, ◌++◌, ◌∷◌, [], suc, List, length, length-append, take, ap, sym, refl, ◌∙◌, arith}
-use Rattle.std.proofs.lemmas.List.{append-nil, take_all}
-use Rattle.typst_candidates.specs.Candidates.{Candidate, of_block, run_in}
-use Rattle.typst_candidates.specs.declared.enclosing.Enclosing.{Enclosing}
-use Rattle.typst_candidates.specs.Edges.{below}
-use Rattle.typst_candidates.specs.Stops.{found_in_all, inside, kids}
+use Rattle.typst_candidates.proofs.Cited.{◌≡◌, ◌++◌, List, length, take, ap, sym, refl, ◌∙◌, arith, take_all, Candidate, of_block, run_in, found_in_all, inside, kids}
 use Rattle.typst_candidates.proofs.Nested.{piece-run}
-use Rattle.typst_candidates.proofs.Stops.{alone, covered, covered-fewer, covered-fits, down, front-longer, none-below, shorter, steps-lead, steps-on}
+use Rattle.typst_candidates.proofs.Stops.{covered, covered-fewer, covered-fits, down, front-longer, none-below, shorter, steps-lead, steps-on}
 use Rattle.typst_candidates.proofs.candidate.CandidateSearch.below.Goals as goal
-
-pub loop-child-init : goal.loop-child-init
-loop-child-init c =
-    let es = c.args.self.now.records.now.units.entries in
-    let path = c.args.path.now.items in
-    record {
-      near = c.requires.near;
-      depth = c.requires.depth;
-      path = take_all (length path) path (omega arith);
-      way = take_all (suc (length path)) (path ++ c.args.top.near.first.index ∷ []) (omega (arith, length-append path (c.args.top.near.first.index ∷ [])));
-      found = λ ns w final front.
-          (let all = below ns c.args.self.now.start c.args.self.now.end path c.args.top.at c.args.top.node.now in
-          ap (λ (around : List Enclosing). all ++ found_in_all es final around) c.new-around.ensures.items ∙ append-nil all);
-    }
 
 pub stop-stop-requires-clause-fits : goal.stop-stop-requires-clause-fits
 stop-stop-requires-clause-fits c =
     covered-fits c.args.self.now.start c.args.self.now.end c.loop-child.stop c.in-Some.child.now (covered c.args.self.now.start c.args.self.now.end c.loop-child.stop c.in-Some.child.now c.in-Some.ensures.some)
-
-pub push_block-requires : goal.push_block-requires
-push_block-requires c =
-    alone c.args.self.now.start c.args.self.now.end c.loop-child.stop.near c.in-Some.child.now.head.is_inner
-    (covered c.args.self.now.start c.args.self.now.end c.loop-child.stop c.in-Some.child.now c.in-Some.ensures.some).covers
 
 pub loop-child-smaller : goal.loop-child-smaller
 loop-child-smaller c =
@@ -39,19 +15,17 @@ pub returns-clause-found : goal.returns-clause-found
 returns-clause-found c = λ ns w.
     let es = c.args.self.now.records.now.units.entries in
     let path = c.loop-child.path.items in
-    let s = c.loop-child.stop in
-    let none = none-below ns c.args.self.now.start c.args.self.now.end path s c.loop-child.invariant.near (c.in_default.ensures.none refl) in
+    let none = none-below ns c.args.self.now.start c.args.self.now.end path c.loop-child.stop c.loop-child.invariant.near (c.in_default.ensures.none refl) in
     ap (λ (cs : List Candidate). cs ++ found_in_all es path c.loop-child.around.items) (sym none) ∙ c.loop-child.invariant.found ns w path (take_all (length path) path (omega arith))
 
 pub loop-child-preserved : goal.loop-child-preserved
 loop-child-preserved c =
     let es = c.args.self.now.records.now.units.entries in
-    let rs = c.args.self.now.start in
     let re = c.args.self.now.end in
     let s = c.loop-child.stop in
     let u = c.stop-stop.result in
     let t = c.in-Some.child.now in
-    let is = covered rs re s t c.in-Some.ensures.some in
+    let is = covered _ re s t c.in-Some.ensures.some in
     let way = c.in_ok-push.ensures.items in
     let long : u.depth ≡ length c.push.new.self.items = omega (arith, c.stop-stop.ensures.depth, c.len.ensures, c.push.new.self.ok.0) in
     record {
@@ -61,8 +35,8 @@ loop-child-preserved c =
       way = steps-on c.args.path.now.items c.loop-child.path.items c.push.new.self.items c.args.top.near.first.index s.near.first.index u.near.first.index c.loop-child.invariant.path way c.loop-child.invariant.way;
       found = λ ns w final front.
           (let kind = c.run_of_child-run.ensures es ∙ (piece-run es ns s.at c.kind-in-Some.result c.kind-in-Some-2.result w ∙ (λ k. run_in ns s.at (c.kind-in-Some.ensures k) (c.kind-in-Some-2.ensures k))) in
-          let nearer = shorter es ns rs re s u t c.loop-child.path.items c.push.new.self.items final c.run_of_child-run.result c.loop-child.invariant.near c.stop-stop.ensures.near is c.stop-stop.ensures.node c.stop-stop.ensures.at c.loop-child.invariant.depth long way front kind in
-          down es ns rs re s u t c.loop-child.path.items c.push.new.self.items final c.run_of_child-run.result c.loop-child.invariant.near c.stop-stop.ensures.near is c.stop-stop.ensures.node c.stop-stop.ensures.at c.loop-child.invariant.depth long way front kind
+          let nearer = shorter es ns _ re s u t c.loop-child.path.items c.push.new.self.items final c.run_of_child-run.result c.loop-child.invariant.near c.stop-stop.ensures.near is c.stop-stop.ensures.node c.stop-stop.ensures.at c.loop-child.invariant.depth long way front kind in
+          down es ns _ re s u t c.loop-child.path.items c.push.new.self.items final c.run_of_child-run.result c.loop-child.invariant.near c.stop-stop.ensures.near is c.stop-stop.ensures.node c.stop-stop.ensures.at c.loop-child.invariant.depth long way front kind
           (found_in_all es final c.loop-child.around.items) (found_in_all es final c.push_block.new.around.items) (found_in_all es final c.push_run.new.around.items) _ _
           (ap (of_block (take s.depth final) (inside s) (kids s) s.near.first.index) c.kind.ensures) (c.in_ok-push_block.ensures es final) (c.in_ok-push_run.ensures es final) (c.loop-child.invariant.found ns w final nearer));
     }

@@ -1,9 +1,4 @@
-use Rattle.std.proofs.Common.{◌≡◌, ◌++◌, ◌∷◌, [], ℕ, suc, List, length, take}
-use Rattle.typst_language.specs.declared.calls.Note.{Note}
-use Rattle.typst_tree.specs.Tree.{nodes}
-use Rattle.typst_candidates.specs.Nested.{Written}
-use Rattle.typst_candidates.specs.Edges.{IsNear, below}
-use Rattle.typst_candidates.specs.Stops.{found_in_all, inside, kids}
+use Rattle.typst_candidates.proofs.Cited.{◌≡◌, ◌++◌, ◌∷◌, [], ℕ, suc, List, length, take, Note, nodes, IsNear, below, found_in_all, inside, kids, Written}
 use Rattle.typst_candidates.proofs.candidate.CandidateSearch.below.Given as goal
 
 -- those below the node reached so far come before those of what was passed

@@ -1,11 +1,5 @@
-use Rattle.std.proofs.Common.{◌≡◌, ◌++◌, List, ℕ, ◌∷◌, [], length, take, ap, ◌∙◌, arith}
-use Rattle.std.specs.Prelude.{map}
-use Rattle.std.proofs.lemmas.List.{length-map, length-take}
-use Rattle.typst_tree.specs.Tree.{forest}
-use Rattle.typst_candidates.specs.Candidates.{Candidate, candidates_at}
+use Rattle.typst_candidates.proofs.Cited.{◌≡◌, ◌++◌, List, ℕ, ◌∷◌, [], length, take, ap, ◌∙◌, arith, length-map, length-take, forest, Candidate, candidates_at, pieces_at, spelled, found_in_all, run_of, map}
 use Rattle.typst_candidates.specs.declared.enclosing.RunAt.TheVariants as run
-use Rattle.typst_candidates.specs.Edges.{pieces_at, spelled}
-use Rattle.typst_candidates.specs.Stops.{found_in_all, run_of}
 use Rattle.typst_candidates.proofs.Nested.{top-run}
 use Rattle.typst_candidates.proofs.Stops.{added_last, stop-is}
 use Rattle.typst_candidates.proofs.candidate.CandidateSearch.candidates.Goals as goal

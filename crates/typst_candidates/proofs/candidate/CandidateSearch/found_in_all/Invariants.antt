@@ -1,7 +1,4 @@
-use Rattle.std.proofs.Common.{◌≡◌, ◌≤◌, ◌++◌, ℕ, List, length, take}
-use Rattle.std.specs.Prelude.{map}
-use Rattle.typst_candidates.specs.Edges.{IsWhole, spelled}
-use Rattle.typst_candidates.specs.Stops.{found_in_all}
+use Rattle.typst_candidates.proofs.Cited.{◌≡◌, ◌≤◌, ◌++◌, ℕ, List, length, take, IsWhole, spelled, found_in_all, map}
 use Rattle.typst_candidates.proofs.candidate.CandidateSearch.found_in_all.Given as goal
 
 -- what was found, with what is found in the runs and blocks that are left, begins as all of it does

@@ -1,5 +1,4 @@
-use Rattle.std.proofs.Common.{arith}
-use Rattle.typst_candidates.specs.Edges.{bytes_of}
+use Rattle.typst_candidates.proofs.Cited.{arith, bytes_of}
 use Rattle.typst_candidates.proofs.Edges.{around_is}
 use Rattle.typst_candidates.proofs.children.Children.around.Goals as goal
 

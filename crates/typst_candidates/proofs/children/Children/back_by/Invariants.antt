@@ -1,5 +1,4 @@
-use Rattle.std.proofs.Common.{◌≡◌, ◌-◌}
-use Rattle.typst_candidates.specs.Edges.{IsEdge}
+use Rattle.typst_candidates.proofs.Cited.{◌≡◌, ◌-◌, IsEdge}
 use Rattle.typst_candidates.proofs.children.Children.back_by.Given as goal
 
 abbrev pub invariant-loop : goal.invariant-loop

@@ -1,6 +1,4 @@
-use Rattle.std.proofs.Common.{◌≡◌}
-use Rattle.typst_candidates.specs.Candidates.{back_past, holds_at, laid, clings}
-use Rattle.typst_candidates.specs.Edges.{IsEdge}
+use Rattle.typst_candidates.proofs.Cited.{◌≡◌, back_past, holds_at, laid, clings, IsEdge}
 use Rattle.typst_candidates.proofs.children.Children.back_past_clinging.Given as goal
 
 abbrev pub decreases-loop-edge : goal.decreases-loop-edge

@@ -8,5 +8,4 @@ returns-then-edge-byte-clause-index c =
     (λ h. omega (arith, c.loop-edge.invariant.after h, c.loop-edge.invariant.edge.byte)) (omega (arith, c.loop-edge-test.true)) c.before-edge.ensures.index (omega (arith, c.before-edge.ensures.edge.byte, c.if-edge-byte.true))
 
 pub returns-clause-index : goal.returns-clause-index
-returns-clause-index c =
-    back_all_first c.args.byte c.args.self.now.at c.args.self.now.kids.now c.loop-edge.edge.index (λ h. omega (arith, c.loop-edge.invariant.after h, c.loop-edge.invariant.edge.byte)) (omega (arith, c.loop-edge-test.false))
+returns-clause-index c = grind (arith, back_all_first)

@@ -1,5 +1,4 @@
-use Rattle.std.proofs.Common.{◌<◌, ◌≤◌, length}
-use Rattle.typst_candidates.specs.Edges.{IsEdge}
+use Rattle.typst_candidates.proofs.Cited.{◌<◌, ◌≤◌, length, IsEdge}
 use Rattle.typst_candidates.proofs.children.Children.back_to_begun.Given as goal
 
 abbrev pub decreases-loop-edge : goal.decreases-loop-edge

@@ -1,7 +1,4 @@
-use Rattle.std.proofs.Common.{◌≡◌}
-use Rattle.std.specs.Prelude.{not}
-use Rattle.typst_candidates.specs.Candidates.{back_past, holds_at, laid, leads}
-use Rattle.typst_candidates.specs.Edges.{IsEdge, bytes_of}
+use Rattle.typst_candidates.proofs.Cited.{◌≡◌, not, back_past, holds_at, laid, leads, IsEdge, bytes_of}
 use Rattle.typst_candidates.proofs.children.Children.back_to_piece.Given as goal
 
 abbrev pub decreases-loop-edge : goal.decreases-loop-edge

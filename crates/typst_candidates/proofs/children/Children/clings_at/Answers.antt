@@ -1,5 +1,4 @@
-use Rattle.std.proofs.Common.{arith, sym, ◌∙◌}
-use Rattle.typst_candidates.specs.Candidates.{clings}
+use Rattle.typst_candidates.proofs.Cited.{arith, sym, ◌∙◌, clings}
 use Rattle.typst_candidates.proofs.Edges.{holds_here, holds_none}
 use Rattle.typst_candidates.proofs.children.Children.clings_at.Goals as goal
 

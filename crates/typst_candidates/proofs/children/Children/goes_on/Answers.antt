@@ -1,7 +1,4 @@
-use Rattle.std.proofs.Common.{arith, sym, ap, ◌∙◌}
-use Rattle.std.specs.Prelude.{not, ◌||◌}
-use Rattle.typst_candidates.specs.Candidates.{leads, clings}
-use Rattle.typst_candidates.specs.Edges.{bytes_of}
+use Rattle.typst_candidates.proofs.Cited.{arith, sym, ap, ◌∙◌, not, ◌||◌, leads, clings, bytes_of}
 use Rattle.typst_candidates.proofs.Edges.{holds_none, holds_at_byte, or_left, or_right}
 use Rattle.typst_candidates.proofs.children.Children.goes_on.Goals as goal
 

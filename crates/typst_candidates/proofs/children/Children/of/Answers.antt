@@ -1,5 +1,4 @@
-use Rattle.std.proofs.Common.{◌+◌, length, arith, ap, sym, ◌∙◌}
-use Rattle.typst_tree.specs.Tree.{trees}
+use Rattle.typst_candidates.proofs.Cited.{◌+◌, length, arith, ap, sym, ◌∙◌, trees}
 use Rattle.typst_candidates.proofs.Found.{ends_of}
 use Rattle.typst_candidates.proofs.Edges.{trees_forest}
 use Rattle.typst_candidates.proofs.children.Children.of.Goals as goal

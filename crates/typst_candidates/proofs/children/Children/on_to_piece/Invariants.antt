@@ -1,7 +1,4 @@
-use Rattle.std.proofs.Common.{◌≡◌, ◌-◌, length}
-use Rattle.std.specs.Prelude.{not, ◌||◌}
-use Rattle.typst_candidates.specs.Candidates.{on_past, holds_at, laid, leads, clings}
-use Rattle.typst_candidates.specs.Edges.{IsEdge, bytes_of}
+use Rattle.typst_candidates.proofs.Cited.{◌≡◌, ◌-◌, length, not, ◌||◌, on_past, holds_at, laid, leads, clings, IsEdge, bytes_of}
 use Rattle.typst_candidates.proofs.children.Children.on_to_piece.Given as goal
 
 abbrev pub decreases-loop-edge : goal.decreases-loop-edge

@@ -8,8 +8,5 @@ overflow_add-self c = grind (arith, entry_steps)
 pub overflow_add-self-2 : goal.overflow_add-self-2
 overflow_add-self-2 c = grind (arith, entry_steps)
 
-pub invariant_of-self : goal.invariant_of-self
-invariant_of-self c = grind (arith, entry_steps)
-
 pub invariant_of-self-2 : goal.invariant_of-self-2
 invariant_of-self-2 c = grind (arith, entry_steps)

@@ -1,6 +1,4 @@
-use Rattle.std.proofs.Common.{◌≡◌, ◌+◌, ◌∙◌, ℕ, ap, sym, subst, refl, arith}
-use Rattle.typst_candidates.specs.Cursors.{PassesBlock, EntryPlace, entry_after, start_at}
-use Rattle.typst_candidates.specs.Entries.{end_of}
+use Rattle.typst_candidates.proofs.Cited.{◌≡◌, ◌+◌, ◌∙◌, ℕ, ap, sym, subst, refl, arith, PassesBlock, EntryPlace, entry_after, start_at, end_of}
 use Rattle.typst_candidates.proofs.Blocks.{end-block}
 use Rattle.typst_candidates.proofs.cursor.EntryCursor.pass_far_back.Goals as goal
 

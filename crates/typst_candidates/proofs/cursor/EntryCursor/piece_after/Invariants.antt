@@ -1,5 +1,4 @@
-use Rattle.std.proofs.Common.{◌≡◌, ◌-◌, ◌≤◌, length, drop}
-use Rattle.typst_candidates.specs.Cursors.{first_piece}
+use Rattle.typst_candidates.proofs.Cited.{◌≡◌, ◌-◌, ◌≤◌, length, drop, first_piece}
 use Rattle.typst_candidates.proofs.cursor.EntryCursor.piece_after.Given as goal
 
 abbrev pub invariant-loop-entry : goal.invariant-loop-entry

@@ -1,5 +1,4 @@
-use Rattle.std.proofs.Common.{◌≡◌, ◌+◌, ◌^◌, ◌<◌}
-use Rattle.typst_candidates.specs.Cursors.{last_piece}
+use Rattle.typst_candidates.proofs.Cited.{◌≡◌, ◌+◌, ◌^◌, ◌<◌, last_piece}
 use Rattle.typst_candidates.proofs.cursor.EntryCursor.piece_before.Given as goal
 
 abbrev pub invariant-loop-entry : goal.invariant-loop-entry

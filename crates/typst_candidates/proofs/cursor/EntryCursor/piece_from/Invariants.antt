@@ -1,5 +1,4 @@
-use Rattle.std.proofs.Common.{◌≡◌, ◌-◌, ◌≤◌, length, drop}
-use Rattle.typst_candidates.specs.Cursors.{piece_of, start_at}
+use Rattle.typst_candidates.proofs.Cited.{◌≡◌, ◌-◌, ◌≤◌, length, drop, piece_of, start_at}
 use Rattle.typst_candidates.proofs.cursor.EntryCursor.piece_from.Given as goal
 
 abbrev pub invariant-loop-entry : goal.invariant-loop-entry

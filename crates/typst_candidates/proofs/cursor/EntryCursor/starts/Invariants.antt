@@ -1,6 +1,4 @@
-use Rattle.std.proofs.Common.{◌≡◌, ◌-◌, ◌≤◌, ◌++◌, length, drop}
-use Rattle.typst_candidates.specs.Cursors.{pieces_of, start_at}
-use Rattle.typst_candidates.specs.Edges.{within}
+use Rattle.typst_candidates.proofs.Cited.{◌≡◌, ◌-◌, ◌≤◌, ◌++◌, length, drop, pieces_of, start_at, within}
 use Rattle.typst_candidates.proofs.cursor.EntryCursor.starts.Given as goal
 
 abbrev pub invariant-loop-entry : goal.invariant-loop-entry

@@ -1,8 +1,4 @@
-use Rattle.std.proofs.Common.{◌≡◌, ℕ, suc, ◌+◌, ◌-◌, ◌≤◌, ◌%◌, ◌^◌, ◌++◌, List, length, take, drop, length-take-le, ap, sym, ◌∙◌, arith, rules}
-use Rattle.typst_candidates.specs.declared.entry.Entry.{Entry}
-use Rattle.typst_candidates.specs.declared.packed.Packed.{Packed}
-use Rattle.typst_candidates.specs.Entries.{end_of}
-use Rattle.typst_candidates.specs.Packed.{Held, lengths, spans, unpacked, wides}
+use Rattle.typst_candidates.proofs.Cited.{common_steps, ◌≡◌, ℕ, suc, ◌+◌, ◌-◌, ◌≤◌, ◌%◌, ◌^◌, ◌++◌, List, length, take, drop, length-take-le, ap, sym, ◌∙◌, arith, rules, Entry, Packed, end_of, Held, lengths, spans, unpacked, wides}
 use Rattle.std.proofs.lemmas.List.{length-append, take-append-le}
 use Rattle.typst_candidates.proofs.Tallies.{fewer}
 use Rattle.typst_candidates.proofs.Rounds.{both-between}
@@ -28,14 +24,8 @@ record Counted (ps : List Packed) (ws : List Entry) (from to first mid : ℕ) : 
 
 counted : (c : After-beside) → c.args.to + 1 ≤ length c.self.inside.words.items → Counted c.self.inside.words.items c.self.inside.wide.items c.args.from c.args.to c.passed_at-first.result c.beside.result
 counted c all =
-    let ps = c.self.inside.words.items in
-    let ws = c.self.inside.wide.items in
-    let b = between ps ws (c.args.from + 1) (c.args.to + 1) (omega arith) all c.self.invariant.0 in
-    let first : c.passed_at-first.result ≡ wides (take (c.args.from + 1) ps) = c.passed_at-first.ensures ∙ ap (λ us. wides (take (c.args.from + 1) us)) c.deref-2.ensures.value in
-    let mid : c.beside.result ≡ wides (take ((c.args.to + 1) - (c.args.from + 1)) (drop (c.args.from + 1) ps)) =
-    c.beside.ensures ∙ ap (λ us. wides (take ((c.args.to + 1) - (c.args.from + 1)) (drop (c.args.from + 1) us))) c.deref.ensures.value in
-    let last : c.passed_at-first.result + c.beside.result ≡ wides (take (c.args.to + 1) ps) = omega (arith, first, mid, b.wide) in
-    record { upto = all; first_is = first; mid_is = mid; last_is = last; within = omega (arith, last, wides-take ps (c.args.to + 1)); small = omega (arith, last, few ps (c.args.to + 1)); bytes = b }
+    let b = between c.self.inside.words.items c.self.inside.wide.items (c.args.from + 1) (c.args.to + 1) (omega arith) all c.self.invariant.0 in
+    grind (arith, common_steps, wides-take, few)
 
 pub slice_bounds-between-end : goal.slice_bounds-between-end
 slice_bounds-between-end c = let same = ap length c.deref.ensures.value in let all = upto (goal.at.slice_bounds-between-end c).After-deref in omega (arith, same, all)
@@ -62,15 +52,7 @@ pub replace-requires-clause-within : goal.replace-requires-clause-within
 replace-requires-clause-within c = upto (goal.at.replace-requires-clause-within c).After-deref
 
 pub replace-requires-clause-room : goal.replace-requires-clause-room
-replace-requires-clause-room c =
-    let long = unpacked-length c.self.inside.words.items c.self.inside.wide.items c.self.invariant.0 in
-    let part_long = unpacked-length c.part.inside.words.items c.part.inside.wide.items c.part.invariant.0 in
-    let same = ap length c.deref-4.ensures.value in
-    let words = ap (λ (h : Held). h.space.room) c.self.view_is in
-    omega (arith, ap (λ (h : Held). length h.entries) c.self.view_is, long, ap (λ (h : Held). length h.entries) c.part.view_is, part_long, same, words)
-
-pub replace-requires-2-clause-order : goal.replace-requires-2-clause-order
-replace-requires-2-clause-order c = omega arith
+replace-requires-clause-room c = grind (arith, unpacked-length)
 
 pub replace-requires-2-clause-within : goal.replace-requires-2-clause-within
 replace-requires-2-clause-within c = (counted (goal.at.replace-requires-2-clause-within c).After-beside (upto (goal.at.replace-requires-2-clause-within c).After-deref)).within
@@ -80,14 +62,7 @@ words c = c.replace.ensures ∙ ap (λ us. take (c.args.from + 1) c.self.inside.
 
 besides : (c : After-replace-2) → Counted c.self.inside.words.items c.self.inside.wide.items c.args.from c.args.to c.passed_at-first.result c.beside.result → c.replace-2.new.items.items
     ≡ take (wides (take (c.args.from + 1) c.self.inside.words.items)) c.self.inside.wide.items ++ (c.part.inside.wide.items ++ drop (wides (take (c.args.to + 1) c.self.inside.words.items)) c.self.inside.wide.items)
-besides c k =
-    let ps = c.self.inside.words.items in
-    let ws = c.self.inside.wide.items in
-    let last = c.passed_at-first.result + c.beside.result in
-    c.replace-2.ensures
-    ∙ ap (λ us. take c.passed_at-first.result ws ++ (us ++ drop last ws)) c.deref-5.ensures.value
-    ∙ ap (λ n. take n ws ++ (c.part.inside.wide.items ++ drop last ws)) k.first_is
-    ∙ ap (λ n. take (wides (take (c.args.from + 1) ps)) ws ++ (c.part.inside.wide.items ++ drop n ws)) k.last_is
+besides c k = grind (arith, words)
 
 pub invariant_of-self : goal.invariant_of-self
 invariant_of-self c =

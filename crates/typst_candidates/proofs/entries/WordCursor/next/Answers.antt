@@ -1,5 +1,4 @@
-use Rattle.std.proofs.Common.{arith}
-use Rattle.std.proofs.lemmas.Option.{slice_get_past}
+use Rattle.typst_candidates.proofs.Cited.{arith, slice_get_past}
 use Rattle.typst_candidates.proofs.Words.{found-at, one-more, unpacked-length, wides-take}
 use Rattle.typst_candidates.proofs.entries.WordCursor.next.Goals as goal
 

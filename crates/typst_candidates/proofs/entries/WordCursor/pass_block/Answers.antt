@@ -1,6 +1,4 @@
-use Rattle.std.proofs.Common.{◌≡◌, ◌+◌, ◌-◌, ◌≤◌, ◌∙◌, length, take, drop, refl, ap, sym, subst, arith}
-use Rattle.typst_candidates.specs.Cursors.{PassesBlock, EntryPlace}
-use Rattle.typst_candidates.specs.Packed.{spans, unpacked, wides}
+use Rattle.typst_candidates.proofs.Cited.{common_steps, ◌≡◌, ◌+◌, ◌-◌, ◌≤◌, ◌∙◌, length, take, drop, ap, sym, arith, spans, wides}
 use Rattle.typst_candidates.proofs.Blocks.{block-of}
 use Rattle.typst_candidates.proofs.Spans.{wides-more}
 use Rattle.typst_candidates.proofs.Words.{unpacked-length}
@@ -13,15 +11,12 @@ pub returns-clause-some : goal.returns-clause-some
 returns-clause-some c =
     let n = c.self.inside.number in
     let ps = c.self.inside.words.now in
-    let ws = c.self.inside.wide.now in
     let within = c.if-self-lt-BLOCK.false in
     let long : (n + 16) - n ≡ 16 = omega arith in
     let none : wides (take 16 (drop n ps)) ≡ 0 = sym (ap (λ k. wides (take k (drop n ps))) long) ∙ c.in_ok-span.ensures.0 in
     let sum : c.in_ok-span.span ≡ spans (take 16 (drop n ps)) = c.in_ok-span.ensures.1 ∙ ap (λ k. spans (take k (drop n ps))) long in
     let fits : n + 16 ≤ length ps = omega (arith, within) in
-    let b = block-of ps ws n 16 c.in_ok-span.span fits c.self.invariant.2 none sum in
-    let count = unpacked-length ps ws c.self.invariant.2 in
-    let less = c.if-span-most.false in (
-      subst (λ (p : EntryPlace). PassesBlock p (record { entries = unpacked ps ws; number = n + 16 }) c.in_ok-span.span) c.self.view_is (record { within = omega (arith, fits, count); new_is = refl; span_is = b.span_is; near = b.near }),
-      omega (arith, less),
-    )
+    let b = block-of ps _ n 16 c.in_ok-span.span fits c.self.invariant.2 none sum in
+    let count = unpacked-length ps _ c.self.invariant.2 in
+    let less = c.if-span-most.false in
+    grind (arith, common_steps)

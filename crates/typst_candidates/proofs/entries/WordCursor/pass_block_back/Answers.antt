@@ -1,5 +1,4 @@
-use Rattle.std.proofs.Common.{◌≡◌, ◌+◌, ◌-◌, ◌≤◌, ◌∙◌, length, take, drop, ap, sym, arith}
-use Rattle.typst_candidates.specs.Packed.{spans, unpacked, wides}
+use Rattle.typst_candidates.proofs.Cited.{common_steps, ◌≡◌, ◌+◌, ◌-◌, ◌≤◌, ◌∙◌, length, take, drop, ap, sym, arith, spans, wides}
 use Rattle.typst_candidates.proofs.Blocks.{block-of}
 use Rattle.typst_candidates.proofs.Spans.{wides-more}
 use Rattle.typst_candidates.proofs.Words.{unpacked-length}
@@ -13,15 +12,12 @@ returns-clause-some c =
     let n = c.self.inside.number in
     let m = c.in_ok-number.number in
     let ps = c.self.inside.words.now in
-    let ws = c.self.inside.wide.now in
     let long : n - m ≡ 16 = omega arith in
     let whole : m + 16 ≡ n = omega arith in
     let none : wides (take 16 (drop m ps)) ≡ 0 = sym (ap (λ k. wides (take k (drop m ps))) long) ∙ c.in_ok-span.ensures.0 in
     let sum : c.in_ok-span.span ≡ spans (take 16 (drop m ps)) = c.in_ok-span.ensures.1 ∙ ap (λ k. spans (take k (drop m ps))) long in
     let fits : m + 16 ≤ length ps = omega (arith, whole) in
-    let b = block-of ps ws m 16 c.in_ok-span.span fits c.self.invariant.2 none sum in
-    let count = unpacked-length ps ws c.self.invariant.2 in
-    let less = c.if-span-most.false in (
-      record { within = omega (arith, fits, count); new_is = sym c.self.view_is ∙ ap (λ k. record { entries = unpacked ps ws; number = k }) (sym whole); span_is = b.span_is; near = b.near },
-      omega (arith, less),
-    )
+    let b = block-of ps _ m 16 c.in_ok-span.span fits c.self.invariant.2 none sum in
+    let count = unpacked-length ps _ c.self.invariant.2 in
+    let less = c.if-span-most.false in
+    grind (arith, common_steps)

@@ -1,9 +1,4 @@
-use Rattle.std.proofs.Common.{◌≡◌, ℕ, suc, ◌+◌, ◌<◌, true, List, length, get_or, take, Some, ap, sym, ◌∙◌, arith}
-use Rattle.std.specs.List.{slice_get}
-use Rattle.typst_candidates.specs.declared.entry.Entry.{Entry}
-use Rattle.typst_candidates.specs.declared.packed.Packed.{Packed}
-use Rattle.typst_candidates.specs.Cursors.{is_piece}
-use Rattle.typst_candidates.specs.Packed.{beside, entry_in, holds_piece, span, unpacked, wides}
+use Rattle.typst_candidates.proofs.Cited.{◌≡◌, ℕ, suc, ◌+◌, ◌<◌, true, List, length, get_or, take, Some, ap, sym, ◌∙◌, arith, slice_get, Entry, Packed, is_piece, beside, entry_in, holds_piece, span, unpacked, wides}
 use Rattle.typst_candidates.proofs.Words.{at-word, found-at, one-more, piece-held}
 use Rattle.typst_candidates.proofs.entries.WordCursor.pass_piece.Goals as goal
 

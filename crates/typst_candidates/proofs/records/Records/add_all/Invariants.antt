@@ -1,5 +1,4 @@
-use Rattle.std.proofs.Common.{◌≡◌, ◌-◌, ◌^◌, ◌<◌, ◌++◌, drop}
-use Rattle.typst_candidates.specs.Entries.{entries_by, last_start}
+use Rattle.typst_candidates.proofs.Cited.{◌≡◌, ◌-◌, ◌^◌, ◌<◌, ◌++◌, drop, entries_by, last_start}
 use Rattle.typst_candidates.proofs.records.Records.add_all.Given as goal
 
 abbrev pub invariant-loop-note : goal.invariant-loop-note

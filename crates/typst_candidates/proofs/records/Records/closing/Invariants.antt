@@ -1,5 +1,4 @@
-use Rattle.std.proofs.Common.{◌≡◌, ◌-◌, ◌≤◌, length, drop}
-use Rattle.typst_candidates.specs.Cursors.{closing_of}
+use Rattle.typst_candidates.proofs.Cited.{◌≡◌, ◌-◌, ◌≤◌, length, drop, closing_of}
 use Rattle.typst_candidates.proofs.records.Records.closing.Given as goal
 
 abbrev pub invariant-loop-entry : goal.invariant-loop-entry

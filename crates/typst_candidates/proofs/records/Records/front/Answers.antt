@@ -1,12 +1,8 @@
-use Rattle.std.proofs.Common.{◌≡◌, ◌-◌, drop, length-drop, refl, arith, Some, ◌+◌, ap, ◌∙◌}
+use Rattle.typst_candidates.proofs.Cited.{◌≡◌, ◌-◌, drop, length-drop, refl, arith, Some, ◌+◌, ap, ◌∙◌, slice_get, EntryPlace, front_of, nat_tests}
 use Rattle.std.proofs.lemmas.List.{drop-drop}
-use Rattle.std.specs.List.{slice_get}
-use Rattle.typst_candidates.specs.Cursors.{EntryPlace}
-use Rattle.typst_candidates.specs.Entries.{front_of}
 use Rattle.typst_candidates.proofs.Blocks.{front-over}
 use Rattle.typst_candidates.proofs.Cursors.{cut, entry_steps, nothing-left}
 use Rattle.typst_candidates.proofs.Passes.{front-on}
-use Rattle.std.proofs.lemmas.Bool.Decides.{nat_tests}
 use Rattle.typst_candidates.proofs.records.Records.front.Goals as goal
 
 pub entries-preserved-in-Some : goal.entries-preserved-in-Some
@@ -40,9 +36,7 @@ entries-smaller c = grind (arith, entry_steps)
 
 pub entries-preserved : goal.entries-preserved
 entries-preserved c =
-    let es = c.args.self.now.units.entries in
     let n = c.pass_far.new.place.number in
-    let split = c.in-Some-left_after.ensures.some c.in-Some-left_after.rest refl in
-    let there : slice_get es n ≡ Some c.in-Some-next.entry = grind arith in
-    let on = front-on es c.args.at (c.args.at - c.entries.left) n c.in-Some-next.entry there (grind arith) in
+    let there : slice_get c.args.self.now.units.entries n ≡ Some c.in-Some-next.entry = grind arith in
+    let on = front-on _ c.args.at (c.args.at - c.entries.left) n c.in-Some-next.entry there (grind arith) in
     record { entries = grind arith; within = grind arith; count = grind arith }

@@ -1,5 +1,4 @@
-use Rattle.std.proofs.Common.{◌≡◌, ◌+◌, ◌-◌, ◌≤◌, drop, length}
-use Rattle.typst_candidates.specs.Entries.{front_of}
+use Rattle.typst_candidates.proofs.Cited.{◌≡◌, ◌+◌, ◌-◌, ◌≤◌, drop, length, front_of}
 use Rattle.typst_candidates.proofs.records.Records.front.Given as goal
 
 abbrev pub invariant-entries : goal.invariant-entries

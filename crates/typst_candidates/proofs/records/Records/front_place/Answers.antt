@@ -1,8 +1,4 @@
-use Rattle.std.proofs.Common.{◌≡◌, ◌-◌, drop, ap, subst, arith}
-use Rattle.typst_candidates.specs.Anchors.{IsAnchor}
-use Rattle.typst_candidates.specs.Cursors.{EntryPlace}
-use Rattle.typst_candidates.specs.Entries.{front_of}
-use Rattle.typst_candidates.specs.Records.{Kept}
+use Rattle.typst_candidates.proofs.Cited.{◌≡◌, ◌-◌, drop, ap, subst, arith, IsAnchor, EntryPlace, front_of, Kept}
 use Rattle.typst_candidates.proofs.Anchors.{front-from}
 use Rattle.typst_candidates.proofs.records.Records.front_place.Goals as goal
 

@@ -1,5 +1,4 @@
-use Rattle.std.proofs.Common.{◌≡◌, ap, arith}
-use Rattle.typst_candidates.specs.declared.anchor.Anchor.{Anchor}
+use Rattle.typst_candidates.proofs.Cited.{◌≡◌, ap, arith, Anchor}
 use Rattle.typst_candidates.proofs.Anchors.{AnchorIn, anchor-in}
 use Rattle.typst_candidates.proofs.records.Records.into_block.Goals as goal
 use Rattle.typst_candidates.proofs.records.Records.into_block.Goals.{After-max}
@@ -13,6 +12,3 @@ begun c =
 
 pub returns-clause-anchor : goal.returns-clause-anchor
 returns-clause-anchor c = (begun c).anchor
-
-pub returns-clause-after : goal.returns-clause-after
-returns-clause-after c = (begun c).after

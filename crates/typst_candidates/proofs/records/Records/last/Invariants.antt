@@ -1,5 +1,4 @@
-use Rattle.std.proofs.Common.{◌≡◌, ◌-◌, drop, length}
-use Rattle.typst_candidates.specs.Entries.{end_of}
+use Rattle.typst_candidates.proofs.Cited.{◌≡◌, ◌-◌, drop, length, end_of}
 use Rattle.typst_candidates.proofs.records.Records.last.Given as goal
 
 abbrev pub invariant-loop-entry : goal.invariant-loop-entry

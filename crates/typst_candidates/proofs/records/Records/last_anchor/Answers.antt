@@ -1,15 +1,10 @@
-use Rattle.std.proofs.Common.{◌-◌, ◌≤◌, ◌<◌, length, ap, sym, arith}
-use Rattle.typst_candidates.specs.Cursors.{EntryPlace}
-use Rattle.typst_candidates.proofs.Anchors.{PassedOn, anchor-on, at-anchor, passed-on}
+use Rattle.typst_candidates.proofs.Cited.{common_steps, ◌-◌, ◌≤◌, ◌<◌, length, ap, sym, arith, EntryPlace}
+use Rattle.typst_candidates.proofs.Anchors.{PassedOn, anchor-on, passed-on}
 use Rattle.typst_candidates.proofs.records.Records.last_anchor.Goals as goal
 use Rattle.typst_candidates.proofs.records.Records.last_anchor.Goals.{After-max-reach}
 
 pub loop-entry-init : goal.loop-entry-init
-loop-entry-init c = record {
-  passed = at-anchor c.args.self.now.units.entries c.args.from c.cursor_from-place.result c.requires.from c.cursor_from-place.ensures;
-  anchor = c.requires.from;
-  order = omega arith;
-}
+loop-entry-init c = grind (arith, common_steps)
 
 on : (c : After-max-reach) → PassedOn c.args.self.now.units.entries c.args.from c.next.new.self c.start-start.result c.max-reach.result c.in_ok-further.further
 on c =

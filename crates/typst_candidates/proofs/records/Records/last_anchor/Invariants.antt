@@ -1,5 +1,4 @@
-use Rattle.std.proofs.Common.{◌-◌, ◌≤◌, length}
-use Rattle.typst_candidates.specs.Anchors.{IsAnchor}
+use Rattle.typst_candidates.proofs.Cited.{◌-◌, ◌≤◌, length, IsAnchor}
 use Rattle.typst_candidates.proofs.Anchors.{Passed}
 use Rattle.typst_candidates.proofs.records.Records.last_anchor.Given as goal
 

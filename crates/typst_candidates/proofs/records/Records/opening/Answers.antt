@@ -1,12 +1,8 @@
-use Rattle.std.proofs.Common.{◌≡◌, false, ◌-◌, ◌≤◌, ◌==◌, ◌&&◌, Some, drop, length-drop, refl, arith, ◌+◌, ap, sym, ◌∙◌}
+use Rattle.typst_candidates.proofs.Cited.{◌≡◌, false, ◌-◌, ◌≤◌, ◌==◌, ◌&&◌, Some, drop, length-drop, refl, arith, ◌+◌, ap, sym, ◌∙◌, is_opening, opening_of, slice_get, EntryPlace, nat_tests}
 use Rattle.std.proofs.lemmas.List.{drop-drop}
-use Rattle.typst_candidates.specs.Records.{is_opening, opening_of}
-use Rattle.std.specs.List.{slice_get}
-use Rattle.typst_candidates.specs.Cursors.{EntryPlace}
 use Rattle.typst_candidates.proofs.Blocks.{opening-over}
 use Rattle.typst_candidates.proofs.Cursors.{cut, entry_steps, nothing-left}
 use Rattle.typst_candidates.proofs.Passes.{opening-on, same-place}
-use Rattle.std.proofs.lemmas.Bool.Decides.{nat_tests}
 use Rattle.typst_candidates.proofs.Walks.{opening-past}
 use Rattle.typst_candidates.proofs.records.Records.opening.Goals as goal
 
@@ -42,13 +38,11 @@ entries-smaller c = grind (arith, entry_steps)
 
 pub entries-preserved : goal.entries-preserved
 entries-preserved c =
-    let es = c.args.self.now.units.entries in
     let n = c.pass_far.new.place.number in
     let rest = c.in_ok-left.left in
-    let split = c.in_ok-left.ensures.some rest refl in
-    let there : slice_get es n ≡ Some c.in_ok-entry.entry = grind arith in
+    let there : slice_get c.args.self.now.units.entries n ≡ Some c.in_ok-entry.entry = grind arith in
     let fits : rest ≤ c.args.at = grind arith in
     let same = same-place c.args.at rest fits in
     let test : (is_opening c.in_ok-entry.entry.kind && (c.args.at - rest) == c.args.at) ≡ false = cc in
-    let on = opening-on es c.args.at (c.args.at - c.entries.left) n (c.args.at - rest) c.in_ok-entry.entry there (grind arith) in
+    let on = opening-on _ c.args.at (c.args.at - c.entries.left) n (c.args.at - rest) c.in_ok-entry.entry there (grind arith) in
     record { entries = grind arith; within = fits; later = grind (arith, rw test at on) }

@@ -1,5 +1,4 @@
-use Rattle.std.proofs.Common.{◌≡◌, ◌-◌, ◌≤◌, drop, length}
-use Rattle.typst_candidates.specs.Records.{opening_of}
+use Rattle.typst_candidates.proofs.Cited.{◌≡◌, ◌-◌, ◌≤◌, drop, length, opening_of}
 use Rattle.typst_candidates.proofs.records.Records.opening.Given as goal
 
 abbrev pub invariant-entries : goal.invariant-entries

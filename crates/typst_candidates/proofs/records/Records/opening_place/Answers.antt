@@ -1,20 +1,9 @@
-use Rattle.std.proofs.Common.{◌-◌, drop, ap, subst, ◌∙◌, arith}
-use Rattle.typst_candidates.specs.Anchors.{IsAnchor}
-use Rattle.typst_candidates.specs.Cursors.{EntryPlace}
-use Rattle.typst_candidates.specs.Records.{Kept, opening_of}
+use Rattle.typst_candidates.proofs.Cited.{◌-◌, drop, ap, subst, ◌∙◌, arith, IsAnchor, EntryPlace, Kept, opening_of}
 use Rattle.typst_candidates.proofs.Anchors.{opening-around, opening-from}
 use Rattle.typst_candidates.proofs.records.Records.opening_place.Goals as goal
 
 pub returns-then-start-at-clause-later : goal.returns-then-start-at-clause-later
-returns-then-start-at-clause-later c =
-    let es = c.args.self.now.units.entries in
-    let at = c.args.at in
-    let a = c.self.inside.anchor in
-    let h = subst (λ (k : Kept). IsAnchor k.units.entries a) c.self.view_is c.self.invariant.1 in
-    let lt = c.if-start-at.true in
-    let is = ap (λ (p : EntryPlace). p.number) c.word_cursor_at.ensures in
-    ap (λ n. opening_of at (at - (at - a.start)) n (drop n es)) is
-    ∙ ap (λ s. opening_of at s a.number (drop a.number es)) (omega (arith, lt)) ∙ opening-from es a at h lt
+returns-then-start-at-clause-later c = grind (arith, opening-from)
 
 pub returns-then-outer-at-clause-later : goal.returns-then-outer-at-clause-later
 returns-then-outer-at-clause-later c =

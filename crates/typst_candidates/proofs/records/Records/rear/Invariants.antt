@@ -1,5 +1,4 @@
-use Rattle.std.proofs.Common.{◌≡◌, ◌≤◌, length, take}
-use Rattle.typst_candidates.specs.Entries.{rear_of}
+use Rattle.typst_candidates.proofs.Cited.{◌≡◌, ◌≤◌, length, take, rear_of}
 use Rattle.typst_candidates.proofs.records.Records.rear.Given as goal
 
 abbrev pub invariant-entries : goal.invariant-entries

@@ -1,5 +1,4 @@
-use Rattle.std.proofs.Common.{◌≡◌, ◌-◌, length, drop}
-use Rattle.typst_candidates.specs.Cursors.{pieces_in, start_at}
+use Rattle.typst_candidates.proofs.Cited.{◌≡◌, ◌-◌, length, drop, pieces_in, start_at}
 use Rattle.typst_candidates.proofs.records.Records.run_in.Given as goal
 
 abbrev pub invariant-loop-entry : goal.invariant-loop-entry

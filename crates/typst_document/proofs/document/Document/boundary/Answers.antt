@@ -1,6 +1,5 @@
-use Rattle.std.proofs.Common.{subst}
+use Rattle.typst_document.proofs.Cited.{subst, Opened}
 use Rattle.typst_parser.specs.Boundaries.{IsBoundary}
-use Rattle.typst_document.specs.Document.{Opened}
 use Rattle.typst_document.proofs.document.Document.boundary.Goals as goal
 
 pub returns : goal.returns

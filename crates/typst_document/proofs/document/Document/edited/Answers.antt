@@ -1,10 +1,5 @@
-use Rattle.std.proofs.Common.{rules, ◌≡◌, ◌≤◌, ap, arith, length, subst, sym}
-use Rattle.std.specs.Str.{IsUtf8}
+use Rattle.typst_document.proofs.Cited.{rules, ◌≡◌, ◌≤◌, ap, arith, length, subst, sym, IsUtf8, edited, IsEdited, line_starts, Opened}
 use Rattle.std.proofs.lemmas.Grind.{common_steps}
-use Rattle.typst_parser.specs.Headline.{edited}
-use Rattle.typst_positions.specs.Positions.{IsEdited}
-use Rattle.typst_positions.specs.Starts.{line_starts}
-use Rattle.typst_document.specs.Document.{Opened}
 use Rattle.typst_document.proofs.Edits.{is_edited}
 use Rattle.typst_document.proofs.ReadAgain.{read_again}
 use Rattle.typst_document.proofs.document.Document.edited.Goals as goal

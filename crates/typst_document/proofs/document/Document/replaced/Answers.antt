@@ -1,8 +1,4 @@
-use Rattle.std.proofs.Common.{◌≡◌, true, ap, sym, ◌∙◌}
-use Rattle.std.specs.Result.{is_ok}
-use Rattle.typst_lines.specs.UnicodeTables.{unicode_classes}
-use Rattle.typst_parser.specs.Headline.{Headline}
-use Rattle.typst_positions.specs.Starts.{line_starts}
+use Rattle.typst_document.proofs.Cited.{◌≡◌, true, ap, sym, ◌∙◌, is_ok, unicode_classes, Headline, line_starts}
 use Rattle.typst_document.proofs.Records.{of-ok, records-kept}
 use Rattle.typst_document.proofs.document.Document.replaced.Goals as goal
 

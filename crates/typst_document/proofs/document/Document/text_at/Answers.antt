@@ -1,5 +1,4 @@
-use Rattle.std.proofs.Common.{refl, subst}
-use Rattle.typst_document.specs.Document.{IsTextAt}
+use Rattle.typst_document.proofs.Cited.{refl, subst, IsTextAt}
 use Rattle.typst_document.proofs.Cuts.{text_found}
 use Rattle.typst_document.proofs.document.Document.text_at.Goals as goal
 

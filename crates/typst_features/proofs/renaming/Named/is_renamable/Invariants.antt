@@ -1,5 +1,4 @@
-use Rattle.std.proofs.Common.{◌≡◌, drop}
-use Rattle.typst_features.specs.Renames.{any_bound}
+use Rattle.typst_features.proofs.Cited.{◌≡◌, drop, any_bound}
 use Rattle.typst_features.proofs.renaming.Named.is_renamable.Given as goal
 
 abbrev pub invariant-loop-occurrence : goal.invariant-loop-occurrence

@@ -1,5 +1,4 @@
-use Rattle.std.proofs.Common.{◌≡◌, ◌≤◌}
-use Rattle.typst_features.specs.ShownRows.{left, steps_left}
+use Rattle.typst_features.proofs.Cited.{◌≡◌, ◌≤◌, left, steps_left}
 use Rattle.typst_features.proofs.typing.Row.past_unmarked.Given as goal
 
 abbrev pub invariant-loop-node : goal.invariant-loop-node

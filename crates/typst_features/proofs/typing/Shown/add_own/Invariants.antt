@@ -1,7 +1,4 @@
-use Rattle.std.proofs.Common.{◌≡◌, List, ◌++◌, drop, length}
-use Rattle.typst_tree.specs.Tree.{text_of}
-use Rattle.typst_features.specs.Shown.{Inside, own_in}
-use Rattle.typst_features.specs.ShownRows.{told}
+use Rattle.typst_features.proofs.Cited.{◌≡◌, List, ◌++◌, drop, length, text_of, told, Inside, own_in}
 use Rattle.typst_features.proofs.typing.Shown.add_own.Given as goal
 
 abbrev pub invariant-loop-diagnostic : goal.invariant-loop-diagnostic

@@ -1,7 +1,4 @@
-use Rattle.std.proofs.Common.{◌≡◌, ◌++◌, drop}
-use Rattle.std.specs.List.{flat_map}
-use Rattle.typst_fixes.specs.Fixes.{of_hint, stated}
-use Rattle.typst_fixes.specs.FixRows.{around}
+use Rattle.typst_fixes.proofs.Cited.{◌≡◌, ◌++◌, drop, flat_map, of_hint, stated, around}
 use Rattle.typst_fixes.proofs.fixes.Found.add_told.Given as goal
 
 abbrev pub invariant-loop-hint : goal.invariant-loop-hint

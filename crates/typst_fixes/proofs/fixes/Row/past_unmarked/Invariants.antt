@@ -1,6 +1,4 @@
-use Rattle.std.proofs.Common.{◌≡◌, ℕ, ◌≤◌}
-use Rattle.std.specs.declared.ops.Range.{Range}
-use Rattle.typst_fixes.specs.FixRows.{left, steps_left}
+use Rattle.typst_fixes.proofs.Cited.{◌≡◌, ℕ, ◌≤◌, left, steps_left, Range}
 use Rattle.typst_fixes.proofs.fixes.Row.past_unmarked.Given as goal
 
 abbrev pub invariant-loop-node : goal.invariant-loop-node

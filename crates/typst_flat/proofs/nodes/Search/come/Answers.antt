@@ -1,6 +1,5 @@
-use Rattle.std.proofs.Common.{refl, sym, ◌∙◌}
-use Rattle.typst_flat.specs.Placed.{Course, course}
-use Rattle.typst_flat.proofs.Placing.{all_come, none_there, stays_back}
+use Rattle.typst_flat.proofs.Cited.{refl, Course, course}
+use Rattle.typst_flat.proofs.Placing.{none_there, stays_back}
 use Rattle.typst_flat.proofs.nodes.Search.come.Goals as goal
 
 pub rows-preserved : goal.rows-preserved
@@ -11,8 +10,3 @@ rows-preserved c =
       number = c.rows.invariant.number;
       ready = stays_back v _ c.in-Some-leave.row c.rows.invariant.ready (none_there c.rows.at.nodes.now c.in_default.ensures.cases) w.0 w.1 refl refl refl refl refl;
     }
-
-pub returns-in_default-leave : goal.returns-in_default-leave
-returns-in_default-leave c =
-    let v : Course = course c.args.self c.rows.at c.rows.progress in
-    sym c.rows.invariant.number ∙ all_come v c.rows.invariant.ready (none_there c.rows.at.nodes.now c.in_default.ensures.cases) c.in_default-leave.ensures

@@ -1,6 +1,4 @@
-use Rattle.std.proofs.Common.{◌≡◌, length}
-use Rattle.typst_highlight.specs.Walk.{waiting}
-use Rattle.typst_flat.specs.Placed.{Stays, course}
+use Rattle.typst_flat.proofs.Cited.{◌≡◌, length, waiting, Stays, course}
 use Rattle.typst_flat.proofs.nodes.Search.come.Given as goal
 
 abbrev pub invariant-rows : goal.invariant-rows

@@ -1,14 +1,6 @@
-use Rattle.std.proofs.Common.{◌≡◌, ◌∷◌, None, length, refl, ap, ◌∙◌, arith}
-use Rattle.std.proofs.lemmas.Bool.Decides.{nat_tests}
-use Rattle.typst_highlight.specs.declared.progress.Waiting.{Waiting}
-use Rattle.typst_flat.specs.Placed.{Course, course}
-use Rattle.typst_flat.proofs.Placing.{is_within, none_there, stays_below}
+use Rattle.typst_flat.proofs.Cited.{None, refl, arith, Course, course, Waiting}
+use Rattle.typst_flat.proofs.Placing.{is_within, stays_below}
 use Rattle.typst_flat.proofs.nodes.Search.go_below.Goals as goal
-
-pub go_below_last-below-requires-clause-row : goal.go_below_last-below-requires-clause-row
-go_below_last-below-requires-clause-row c =
-    let nothing : length c.args.next.later.now ≡ 0 = grind (arith, nat_tests, c.is_empty.ensures, c.if-is_empty.true) in
-    c.requires.row ∙ ap (λ ts. c.args.next.node.now ∷ ts) (none_there c.args.next.later.now nothing)
 
 pub overflow_add-result : goal.overflow_add-result
 overflow_add-result c =

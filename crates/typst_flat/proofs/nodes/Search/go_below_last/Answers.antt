@@ -1,5 +1,4 @@
-use Rattle.std.proofs.Common.{[], refl, arith}
-use Rattle.typst_flat.specs.Placed.{Course, course}
+use Rattle.typst_flat.proofs.Cited.{[], arith, Course, course}
 use Rattle.typst_flat.proofs.Placing.{is_within, stays_below_last}
 use Rattle.typst_flat.proofs.nodes.Search.go_below_last.Goals as goal
 
@@ -9,6 +8,4 @@ overflow_add-result c =
     omega (arith, is_within v c.args.next.node.now [] c.requires.ready c.requires.row, c.requires.ready.counted)
 
 pub returns-clause-ready : goal.returns-clause-ready
-returns-clause-ready c =
-    let v : Course = course c.args.self c.args.next.here c.args.progress.now in
-    stays_below_last v _ c.args.next.node.now c.requires.ready c.requires.row c.requires.inner refl refl refl c.narrow.ensures c.children.ensures c.enter_last.ensures.inside c.enter_last.ensures.waiting
+returns-clause-ready c = grind (arith, stays_below_last)

@@ -1,6 +1,4 @@
-use Rattle.std.proofs.Common.{refl, arith}
-use Rattle.typst_flat.specs.Placed.{Course, course}
-use Rattle.typst_flat.specs.declared.placed.PlacedNode.{PlacedNode}
+use Rattle.typst_flat.proofs.Cited.{refl, arith, Course, course, PlacedNode}
 use Rattle.typst_flat.proofs.Placing.{is_placed}
 use Rattle.typst_flat.proofs.nodes.Search.locate.Goals as goal
 

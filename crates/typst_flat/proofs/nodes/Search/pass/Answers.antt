@@ -1,5 +1,4 @@
-use Rattle.std.proofs.Common.{refl, arith}
-use Rattle.typst_flat.specs.Placed.{Course, course}
+use Rattle.typst_flat.proofs.Cited.{refl, arith, Course, course}
 use Rattle.typst_flat.proofs.Placing.{is_within, moves_one, stays_behind}
 use Rattle.typst_flat.proofs.nodes.Search.pass.Goals as goal
 

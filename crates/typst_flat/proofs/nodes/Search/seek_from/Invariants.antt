@@ -1,5 +1,4 @@
-use Rattle.std.proofs.Common.{length}
-use Rattle.typst_flat.specs.Placed.{IsSought, Passes, course}
+use Rattle.typst_flat.proofs.Cited.{length, IsSought, Passes, course}
 use Rattle.typst_flat.proofs.nodes.Search.seek_from.Given as goal
 
 abbrev pub invariant-nodes : goal.invariant-nodes

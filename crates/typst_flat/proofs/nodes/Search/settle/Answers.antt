@@ -1,15 +1,11 @@
-use Rattle.std.proofs.Common.{ap, sym, refl, arith}
-use Rattle.typst_flat.specs.Placed.{Course, course}
-use Rattle.typst_flat.proofs.Placing.{passes_none, passes_to, sought_behind, sought_here, stays_sought}
+use Rattle.typst_flat.proofs.Cited.{ap, sym, refl, arith, Course, course}
+use Rattle.typst_flat.proofs.Placing.{passes_to, sought_behind, sought_here, stays_sought}
 use Rattle.typst_flat.proofs.nodes.Search.settle.Goals as goal
 
 pub returns-in_default-clause-sought : goal.returns-in_default-clause-sought
 returns-in_default-clause-sought c =
     let v : Course = course c.args.self c.args.here c.args.progress.now in
     sought_behind v c.args.node.now c.args.later.now c.args.end c.args.number c.requires
-
-pub returns-in_default-clause-passes : goal.returns-in_default-clause-passes
-returns-in_default-clause-passes c = passes_none (course c.args.self c.args.here c.args.progress.now)
 
 pub returns-clause-sought : goal.returns-clause-sought
 returns-clause-sought c =

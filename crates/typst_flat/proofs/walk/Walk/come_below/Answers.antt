@@ -1,7 +1,4 @@
-use Rattle.std.proofs.Common.{◌≡◌, ◌+◌, ◌-◌, ◌++◌, ◌∷◌, [], List, length, take, ap, sym, ◌∙◌, refl, arith}
-use Rattle.std.specs.Prelude.{vec_len}
-use Rattle.std.proofs.lemmas.List.{take-set}
-use Rattle.typst_flat.specs.declared.walk.Row.{Row}
+use Rattle.typst_flat.proofs.Cited.{◌≡◌, ◌+◌, ◌-◌, ◌++◌, ◌∷◌, [], List, length, take, ap, sym, ◌∙◌, refl, arith, vec_len, take-set, Row}
 use Rattle.typst_flat.proofs.Steps.{closed_row, last_row, set_last, taken_row}
 use Rattle.typst_flat.proofs.walk.Walk.come_below.Goals as goal
 

@@ -1,6 +1,4 @@
-use Rattle.std.proofs.Common.{◌≡◌}
-use Rattle.std.specs.Prelude.{vec_len}
-use Rattle.typst_flat.specs.Walk.{IsReady, rows}
+use Rattle.typst_flat.proofs.Cited.{◌≡◌, vec_len, IsReady, rows}
 use Rattle.typst_flat.proofs.walk.Walk.come_below.Given as goal
 
 abbrev pub invariant-rows : goal.invariant-rows

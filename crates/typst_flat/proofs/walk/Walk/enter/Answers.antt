@@ -1,7 +1,4 @@
-use Rattle.std.proofs.Common.{◌+◌, refl, sym, subst, arith}
-use Rattle.std.specs.Prelude.{reverse}
-use Rattle.typst_tree.specs.Linked.{linked}
-use Rattle.typst_flat.specs.Walk.{IsReady, rows}
+use Rattle.typst_flat.proofs.Cited.{◌+◌, refl, sym, subst, arith, reverse, linked, IsReady, rows}
 use Rattle.typst_flat.specs.declared.walk.Walk.{Walk}
 use Rattle.typst_flat.proofs.Steps.{entered_leaf, entered_row, within}
 use Rattle.typst_flat.proofs.walk.Walk.enter.Goals as goal
@@ -9,8 +6,7 @@ use Rattle.typst_flat.proofs.walk.Walk.enter.Goals.{then-descendants-gt1+in_ok-p
 
 pub overflow_add-self : goal.overflow_add-self
 overflow_add-self c =
-    let s = c.args.self.now in
-    omega (arith, within s.root.now s.number c.args.parent (reverse s.rows.items) c.requires.at, c.requires.counted)
+    omega (arith, within c.args.self.now.root.now c.args.self.now.number c.args.parent (reverse c.args.self.now.rows.items) c.requires.at, c.requires.counted)
 
 pub returns-clause-ready : goal.returns-clause-ready
 returns-clause-ready c =

@@ -1,5 +1,4 @@
-use Rattle.std.proofs.Common.{◌≡◌, ◌-◌}
-use Rattle.typst_tree.specs.Tree.{nodes}
+use Rattle.typst_flat.proofs.Cited.{◌≡◌, ◌-◌, nodes}
 use Rattle.typst_flat.specs.Walk.{Stays, ahead}
 use Rattle.typst_flat.proofs.walk.Walk.next.Given as goal
 

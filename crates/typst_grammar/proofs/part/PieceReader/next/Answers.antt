@@ -1,10 +1,4 @@
-use Rattle.std.proofs.Common.{false, true, refl, subst}
-use Rattle.typst_language.specs.Calls.Call.{MarkupExpr, CodeExpr, MathExpr, Pattern}
-use Rattle.typst_code.specs.Markup.{markup_turn}
-use Rattle.typst_grammar.specs.Pieces.{stops_of}
-use Rattle.typst_grammar.specs.declared.part.RunKind.{RunKind}
-use Rattle.typst_language.specs.View.{Does}
-use Rattle.typst_grammar.specs.Guessing.{guessing_at}
+use Rattle.typst_grammar.proofs.Cited.{false, true, refl, subst, MarkupExpr, CodeExpr, MathExpr, Pattern, markup_turn, stops_of, RunKind, Does, guessing_at}
 use Rattle.typst_grammar.proofs.AtLevels.{calls-at, fills-level}
 use Rattle.typst_grammar.proofs.Pieces.{reads-on, reads-none, shorter, fills-at, guessing_in}
 use Rattle.typst_grammar.proofs.part.PieceReader.next.Goals as goal

@@ -1,6 +1,5 @@
-use Rattle.std.proofs.Common.{◌≡◌, ◌+◌, ◌<◌, ◌≤◌, ◌++◌, ◌∙◌, refl, ap, arith, length, get_or}
-use Rattle.std.proofs.lemmas.Str.{IsCharBoundary-start, IsCharBoundary-after_ascii}
-use Rattle.typst_highlight.proofs.Escapes.{plain_more, plain_none, entity_more, plain_rest}
+use Rattle.typst_highlight.proofs.Cited.{common_steps, ◌≡◌, ◌+◌, ◌<◌, ◌++◌, ◌∙◌, refl, ap, arith, length, get_or, IsCharBoundary-start, IsCharBoundary-after_ascii}
+use Rattle.typst_highlight.proofs.Escapes.{plain_more, plain_none, entity_more}
 use Rattle.typst_highlight.proofs.page.Writer.write_entities.Goals as goal
 use Rattle.typst_highlight.proofs.page.Writer.write_entities.Goals.{in-Some+in_ok-push+in_ok-push-2, in_default}
 
@@ -35,8 +34,4 @@ loop-at-preserved c =
     ]
 
 pub returns : goal.returns
-returns c =
-    let so_far = c.loop-at.invariant in
-    let end : length c.args.text.now ≤ c.loop-at.at = omega (arith, ap length c.as_bytes-bytes.ensures.value) in
-    let rest = c.in_ok-push-3.ensures ∙ ap (λ bs. c.loop-at.self ++ bs) c.range_from.ensures.value in
-    plain_rest c.args.text.now c.loop-at.self _ _ c.loop-at.done c.loop-at.at so_far.before end rest so_far.plain so_far.written
+returns c = grind (arith, common_steps)

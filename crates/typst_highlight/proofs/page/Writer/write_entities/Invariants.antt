@@ -1,7 +1,4 @@
-use Rattle.std.proofs.Common.{◌≡◌, ◌≤◌, ◌++◌, drop}
-use Rattle.std.specs.Str.{IsCharBoundary}
-use Rattle.std.specs.List.{slice_range}
-use Rattle.typst_highlight.specs.Html.{escaped}
+use Rattle.typst_highlight.proofs.Cited.{◌≡◌, ◌≤◌, ◌++◌, drop, slice_range, escaped, IsCharBoundary}
 use Rattle.typst_highlight.proofs.page.Writer.write_entities.Given as goal
 
 abbrev pub invariant-loop-at : goal.invariant-loop-at

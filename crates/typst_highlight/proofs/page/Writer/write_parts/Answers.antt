@@ -1,5 +1,4 @@
-use Rattle.std.proofs.Common.{arith}
-use Rattle.std.proofs.lemmas.Grind.{common_steps}
+use Rattle.typst_highlight.proofs.Cited.{arith, common_steps}
 use Rattle.typst_highlight.proofs.page.Writer.write_parts.Goals as goal
 
 pub returns : goal.returns

@@ -1,5 +1,4 @@
-use Rattle.std.proofs.Common.{◌≡◌, refl, ap, sym, ◌∙◌}
-use Rattle.std.specs.Prelude.{slice_get}
+use Rattle.typst_kinds.proofs.Cited.{◌≡◌, refl, ap, sym, ◌∙◌, slice_get}
 use Rattle.typst_kinds.proofs.Places.{kinds, kind_here, kind_there}
 use Rattle.typst_kinds.proofs.kind.SyntaxKind.at.Goals as goal
 

@@ -1,10 +1,4 @@
-use Rattle.std.proofs.Common.{◌≡◌, false, true, refl, sym, ap, ◌∙◌, arith, inl, inr}
-use Rattle.std.specs.Prelude.{nat_eq}
-use Rattle.std.specs.Cmp.Lexicographic.{bytes_decides, pointwise}
-use Rattle.std.proofs.lemmas.Bool.{cases_eq}
-use Rattle.std.proofs.lemmas.Option.{same_Some, none-some}
-use Rattle.typst_kinds.specs.Members.{place_of}
-use Rattle.typst_kinds.specs.Names.{name_of}
+use Rattle.typst_kinds.proofs.Cited.{◌≡◌, false, true, refl, sym, ap, ◌∙◌, arith, inl, inr, nat_eq, bytes_decides, pointwise, cases_eq, same_Some, none-some, place_of, name_of}
 use Rattle.typst_kinds.proofs.kind.SyntaxKind.named.Goals as goal
 
 pub loop-place-preserved : goal.loop-place-preserved

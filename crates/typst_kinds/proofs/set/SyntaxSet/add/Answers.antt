@@ -1,5 +1,4 @@
-use Rattle.std.proofs.Common.{rules, ◌≡◌, ◌/◌, ◌<◌, length, arith}
-use Rattle.typst_kinds.specs.Members.{place_of}
+use Rattle.typst_kinds.proofs.Cited.{rules, ◌≡◌, ◌/◌, ◌<◌, length, arith, place_of}
 use Rattle.typst_kinds.proofs.Membership.{added, added_other}
 use Rattle.typst_kinds.proofs.set.SyntaxSet.add.Goals as goal
 

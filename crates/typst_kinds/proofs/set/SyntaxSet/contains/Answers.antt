@@ -1,6 +1,4 @@
-use Rattle.std.proofs.Common.{◌==◌, ap}
-use Rattle.std.proofs.lemmas.Nat.Bits.{shr_and_one}
-use Rattle.typst_kinds.specs.Members.{has}
+use Rattle.typst_kinds.proofs.Cited.{◌==◌, ap, shr_and_one, has}
 use Rattle.typst_kinds.proofs.set.SyntaxSet.contains.Goals as goal
 
 pub returns : goal.returns

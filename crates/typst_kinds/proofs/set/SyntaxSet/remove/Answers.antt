@@ -1,5 +1,4 @@
-use Rattle.std.proofs.Common.{rules, ◌≡◌, ◌/◌, ◌<◌, length, arith}
-use Rattle.typst_kinds.specs.Members.{place_of}
+use Rattle.typst_kinds.proofs.Cited.{rules, ◌≡◌, ◌/◌, ◌<◌, length, arith, place_of}
 use Rattle.typst_kinds.proofs.Membership.{removed, removed_other}
 use Rattle.typst_kinds.proofs.set.SyntaxSet.remove.Goals as goal
 

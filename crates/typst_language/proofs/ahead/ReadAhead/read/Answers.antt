@@ -1,14 +1,6 @@
-use Rattle.std.proofs.Common.{◌≡◌, ◌≤◌, ◌<◌, ◌-◌, ◌∙◌, ◌^◌, ◌++◌, ◌∷◌, [], false, length, ap, sym, refl, subst, arith}
-use Rattle.typst_lines.specs.Place.{Place, moved}
-use Rattle.typst_lines.specs.Scanner.{place}
-use Rattle.typst_lines.specs.declared.scanner.Scanner.{Scanner}
-use Rattle.typst_tree.specs.Tree.{Tree}
-use Rattle.typst_tokens.specs.declared.hull.Hull.{Hull}
+use Rattle.typst_language.proofs.Cited.{common_steps, ◌≡◌, ◌≤◌, ◌-◌, ◌∙◌, ◌^◌, ◌++◌, ◌∷◌, [], false, ap, sym, refl, subst, arith, place, Scanner, Tree, Hull, token_node, at_trivia, both_newlines, len_at, newlines_of, text_ahead, token_at, joined_hull, token_hull, column_hull, whole_at}
 use Rattle.typst_tokens.specs.Token.{plain}
 use Rattle.typst_kinds.specs.declared.kind.SyntaxKind.TheVariants as kind
-use Rattle.typst_lexer.specs.Nodes.{token_node}
-use Rattle.typst_language.specs.Hand.{at_trivia, both_newlines, len_at, newlines_of, text_ahead, token_at}
-use Rattle.typst_language.specs.Bytes.{bytes_left, joined_hull, token_hull, column_hull, whole_at}
 use Rattle.typst_language.proofs.Bytes.{some-bytes}
 use Rattle.typst_language.proofs.Fronts.{begins}
 use Rattle.typst_language.proofs.Places.{ahead-left}
@@ -17,18 +9,7 @@ use Rattle.typst_language.proofs.ahead.ReadAhead.read.Goals.{then-not-is_trivia-
 use Rattle.typst_language.proofs.ahead.ReadAhead.read.Goals as goal
 
 pub tokens-init : goal.tokens-init
-tokens-init g c =
-    let k = g.C.Classes.classes c.args.classes.now in
-    let m = c.args.held.mode in
-    let z = place c.args.self.now.before in
-    record {
-      before = refl;
-      along = rw (c.no_newlines-newlines.ensures, c.clear.ensures) (along-start k m z);
-      text = refl;
-      line = c.requires;
-      looks = looking-first k m z (2 ^ 64 - 1);
-      stands = λ s. record { start = s.start; after = s.after; start_text = s.start_text; after_text = s.after_text; line_text = s.line_text };
-    }
+tokens-init g c = grind (arith, along-start, looking-first)
 
 pub returns-then-not-is_trivia-clause-read : goal.returns-then-not-is_trivia-clause-read
 returns-then-not-is_trivia-clause-read g c =
@@ -79,9 +60,7 @@ tokens-smaller g c =
     let z = place c.tokens.start in
     let l = len_at k c.args.held.mode z in
     let p = read-place k c.args.held.mode z _ _ c.in_ok-next.ensures.scans.reads in
-    let fewer : bytes_left (moved l z) < bytes_left z = omega (arith, c.left.ensures, c.left-else-not-is_trivia.ensures, c.if-left.false, ap bytes_left p) in
-    let some = some-bytes l z fewer in
-    omega (arith, ap (λ (q : Place). length q.ahead) p, ahead-left l z, len-most k c.args.held.mode z, some)
+    grind (arith, common_steps, some-bytes, ahead-left, len-most)
 
 pub tokens-preserved : goal.tokens-preserved
 tokens-preserved g c =
@@ -112,10 +91,7 @@ tokens-preserved g c =
     }
 
 pub tokens-smaller-in-Some : goal.tokens-smaller-in-Some
-tokens-smaller-in-Some g c =
-    let k = g.C.Classes.classes c.args.classes.now in
-    let s = c.in-Some.ensures in
-    (lone-is k c.args.held.mode (place c.tokens.start) (place c.in-Some.space.after) _ (s.scans k c.args.held.mode).reads s.space).fewer
+tokens-smaller-in-Some g c = grind (arith, lone-is)
 
 pub tokens-preserved-in-Some : goal.tokens-preserved-in-Some
 tokens-preserved-in-Some g c =

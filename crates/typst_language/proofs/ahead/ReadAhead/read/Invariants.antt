@@ -1,7 +1,4 @@
-use Rattle.std.proofs.Common.{◌≡◌, ◌≤◌, ◌-◌, ◌^◌, length}
-use Rattle.typst_lines.specs.Scanner.{place}
-use Rattle.typst_language.specs.AheadCursor.{Stands}
-use Rattle.typst_language.specs.Bytes.{joined_hull, token_hull}
+use Rattle.typst_language.proofs.Cited.{◌≡◌, ◌≤◌, ◌-◌, ◌^◌, length, place, Stands, joined_hull, token_hull}
 use Rattle.typst_language.proofs.Trivia.{Along, Looking}
 use Rattle.typst_language.proofs.ahead.ReadAhead.read.Given as goal
 

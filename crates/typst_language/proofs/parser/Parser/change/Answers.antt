@@ -1,10 +1,5 @@
-use Rattle.std.proofs.Common.{Bool, ℕ, if◌then◌else◌, ap, sym, ◌∙◌, arith}
-use Rattle.std.proofs.Math.ListN.{set}
-use Rattle.typst_kinds.specs.Kinds.{is_error}
-use Rattle.typst_tree.specs.Tree.{text_of}
-use Rattle.typst_language.specs.Shape.{count_empty}
+use Rattle.typst_language.proofs.Cited.{Bool, ℕ, if◌then◌else◌, ap, sym, ◌∙◌, arith, set, is_error, text_of, count_empty, view_of}
 use Rattle.typst_language.specs.Changes.{meant}
-use Rattle.typst_language.specs.Cursor.{view_of}
 use Rattle.typst_language.proofs.Changes.{changed-alone, changed-error, changed-first}
 use Rattle.typst_language.proofs.parser.Parser.change.Goals as goal
 use Rattle.typst_language.proofs.parser.Parser.change.Goals.{else-is_alone-via-then-is_alone+else-not-was_error, else-is_alone-via-else-is_alone}

@@ -1,6 +1,4 @@
-use Rattle.std.proofs.Common.{◌∙◌, ap, sym, subst}
-use Rattle.typst_language.specs.declared.calls.Mark.TheVariants.{Closes}
-use Rattle.typst_language.specs.View.{View, Looked, noted_here, unasked}
+use Rattle.typst_language.proofs.Cited.{◌∙◌, ap, sym, subst, Closes, View, Looked, noted_here, unasked}
 use Rattle.typst_language.proofs.parser.Parser.close_block.Goals as goal
 
 pub returns : goal.returns

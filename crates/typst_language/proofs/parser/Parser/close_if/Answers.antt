@@ -1,7 +1,5 @@
-use Rattle.std.proofs.Common.{sym, ◌∙◌}
-use Rattle.typst_language.specs.View.{Bare, Fits}
+use Rattle.typst_language.proofs.Cited.{sym, ◌∙◌, Bare, Fits, close_if}
 use Rattle.typst_language.proofs.Steps.{does-next, does-gives, does-peek, does-pick, does-other, does-loose, bare-knows, fits-knows}
-use Rattle.typst_language.specs.Steps.{close_if}
 use Rattle.typst_language.proofs.parser.Parser.close_if.Goals as goal
 
 pub returns-in_ok-pass : goal.returns-in_ok-pass

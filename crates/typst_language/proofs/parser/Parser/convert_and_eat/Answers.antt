@@ -1,7 +1,5 @@
-use Rattle.std.proofs.Common.{ap, ◌∙◌}
+use Rattle.typst_language.proofs.Cited.{ap, ◌∙◌, of_kind, convert_and_eat}
 use Rattle.typst_tree.specs.Tree.{with_kind}
-use Rattle.typst_language.specs.Shape.Making.{of_kind}
-use Rattle.typst_language.specs.Steps.{convert_and_eat}
 use Rattle.typst_language.proofs.parser.Parser.convert_and_eat.Goals as goal
 
 pub returns : goal.returns

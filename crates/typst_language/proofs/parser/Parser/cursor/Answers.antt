@@ -1,6 +1,4 @@
-use Rattle.std.proofs.Common.{◌∙◌, sym}
-use Rattle.std.proofs.lemmas.Str.{IsUtf8-had}
-use Rattle.typst_tokens.proofs.Sights.{offset-is}
+use Rattle.typst_language.proofs.Cited.{◌∙◌, sym, IsUtf8-had, offset-is}
 use Rattle.typst_language.proofs.parser.Parser.cursor.Goals as goal
 
 pub returns : goal.returns

@@ -1,6 +1,4 @@
-use Rattle.std.proofs.Common.{◌∙◌}
-use Rattle.typst_language.specs.Shape.Making.{itself}
-use Rattle.typst_language.specs.Steps.{eat}
+use Rattle.typst_language.proofs.Cited.{◌∙◌, itself, eat}
 use Rattle.typst_language.proofs.parser.Parser.eat.Goals as goal
 
 pub returns : goal.returns

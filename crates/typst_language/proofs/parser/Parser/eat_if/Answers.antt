@@ -1,6 +1,5 @@
-use Rattle.std.proofs.Common.{sym, ◌∙◌}
+use Rattle.typst_language.proofs.Cited.{sym, ◌∙◌, eat_if}
 use Rattle.typst_language.proofs.Steps.{does-next, does-gives, does-peek, does-pick, does-other}
-use Rattle.typst_language.specs.Steps.{eat_if}
 use Rattle.typst_language.proofs.parser.Parser.eat_if.Goals as goal
 
 pub returns-in_ok-eat : goal.returns-in_ok-eat

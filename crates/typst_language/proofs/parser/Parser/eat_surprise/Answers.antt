@@ -1,8 +1,6 @@
-use Rattle.std.proofs.Common.{[], ◌∷◌, None, ap, ◌∙◌}
+use Rattle.typst_language.proofs.Cited.{[], ◌∷◌, None, ap, ◌∙◌, made_unexpected, surprise}
 use Rattle.typst_tree.specs.Diagnostic.{hint_with}
-use Rattle.typst_tree.specs.Messages.{made_unexpected}
 use Rattle.typst_tree.specs.Tree.{advised}
-use Rattle.typst_language.specs.Shape.Making.{surprise}
 use Rattle.typst_language.proofs.parser.Parser.eat_surprise.Goals as goal
 
 pub returns : goal.returns

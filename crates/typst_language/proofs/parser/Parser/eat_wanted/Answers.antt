@@ -1,6 +1,4 @@
-use Rattle.std.proofs.Common.{ap, ◌∙◌}
-use Rattle.typst_tree.specs.Messages.{made_expected}
-use Rattle.typst_language.specs.Shape.Making.{wanted}
+use Rattle.typst_language.proofs.Cited.{ap, ◌∙◌, made_expected, wanted}
 use Rattle.typst_language.proofs.parser.Parser.eat_wanted.Goals as goal
 
 pub returns : goal.returns

@@ -1,14 +1,4 @@
-use Rattle.std.proofs.Common.{◌∙◌, ap, sym}
-use Rattle.std.proofs.lemmas.Str.{IsUtf8-had}
-use Rattle.std.specs.Str.{chars}
-use Rattle.typst_lines.specs.Scanner.{place}
-use Rattle.typst_language.specs.Calls.{token_so}
-use Rattle.typst_language.specs.Hand.{len_by}
-use Rattle.typst_language.specs.Log.{Log}
-use Rattle.typst_language.specs.Shape.Making.{wanted}
-use Rattle.typst_tree.specs.Messages.{made_expected}
-use Rattle.typst_tokens.proofs.Sights.{text-is}
-use Rattle.typst_language.specs.Cursor.{view_of}
+use Rattle.typst_language.proofs.Cited.{◌∙◌, ap, sym, arith, chars, place, token_so, len_by, Log, wanted, made_expected, text-is, view_of}
 use Rattle.typst_language.proofs.ReadSo.{does-eat_so, eaten-so, end-so}
 use Rattle.typst_language.proofs.parser.Parser.eat_wanted_so.Goals as goal
 
@@ -32,6 +22,4 @@ since-text-requires-clause-after g c =
     (len_by (token_so k c.args.way) from, end-so k c.args.way from _ _ c.in_ok-found.ensures.scans.reads)
 
 pub take_so-requires : goal.take_so-requires
-take_so-requires g c =
-    let b = c.self.inside.ahead.before in
-    c.in_ok-found.ensures.scans.same_text ∙ c.self.invariant.stands.start_text ∙ text-is b.text.now b.cursor (IsUtf8-had _ b.utf8) b.boundary
+take_so-requires g c = grind (arith, text-is)

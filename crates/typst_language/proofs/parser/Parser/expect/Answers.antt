@@ -1,6 +1,5 @@
-use Rattle.std.proofs.Common.{sym, ◌∙◌}
+use Rattle.typst_language.proofs.Cited.{sym, ◌∙◌, expect}
 use Rattle.typst_language.proofs.Steps.{does-next, does-peek, does-pick, does-other}
-use Rattle.typst_language.specs.Steps.{expect}
 use Rattle.typst_language.proofs.parser.Parser.expect.Goals as goal
 
 pub returns-in_ok-eat : goal.returns-in_ok-eat

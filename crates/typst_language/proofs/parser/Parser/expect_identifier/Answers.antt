@@ -1,8 +1,5 @@
-use Rattle.std.proofs.Common.{ap, sym, ◌∙◌}
-use Rattle.typst_kinds.specs.Kinds.{is_keyword, same}
+use Rattle.typst_language.proofs.Cited.{ap, sym, ◌∙◌, is_keyword, same, View, expect_identifier}
 use Rattle.typst_kinds.specs.declared.kind.SyntaxKind.TheVariants as kind
-use Rattle.typst_language.specs.View.{View}
-use Rattle.typst_language.specs.Expected.{expect_identifier}
 use Rattle.typst_language.proofs.Steps.{does-next, does-gives, does-peek, does-pick, does-other}
 use Rattle.typst_language.proofs.parser.Parser.expect_identifier.Goals as goal
 

@@ -1,9 +1,5 @@
-use Rattle.std.proofs.Common.{ap, sym, ◌∙◌}
-use Rattle.typst_kinds.specs.Kinds.{is_error}
-use Rattle.typst_language.specs.Shape.Making.{itself}
-use Rattle.typst_language.specs.View.{View}
+use Rattle.typst_language.proofs.Cited.{ap, sym, ◌∙◌, is_error, itself, View, expected}
 use Rattle.typst_language.proofs.Steps.{does-next, does-gives, does-peek, does-pick, does-other, does-erred, does-complains}
-use Rattle.typst_language.specs.Steps.{expected}
 use Rattle.typst_language.proofs.parser.Parser.expected.Goals as goal
 
 pub returns-then-is_error : goal.returns-then-is_error

@@ -1,14 +1,5 @@
-use Rattle.std.proofs.Common.{◌≡◌, ◌+◌, ◌∙◌, ap, sym}
-use Rattle.typst_lines.specs.Place.{Place, moved}
-use Rattle.typst_lines.specs.Scanner.{place}
-use Rattle.typst_lines.specs.Classes.{CharClasses}
-use Rattle.typst_tokens.specs.declared.hull.Hull.{Hull}
-use Rattle.typst_language.specs.Hand.{token_at}
-use Rattle.typst_language.specs.Log.{Log, with_hull}
+use Rattle.typst_language.proofs.Cited.{common_steps, ◌≡◌, ◌+◌, ◌∙◌, ap, sym, arith, Place, moved, place, CharClasses, token_hull, distance}
 use Rattle.typst_language.proofs.Places.{moved-sum}
-use Rattle.typst_language.specs.Bytes.{token_hull}
-use Rattle.typst_language.specs.Cursor.{view_of}
-use Rattle.typst_language.specs.AheadCursor.{distance}
 use Rattle.typst_language.proofs.Words.{further-is}
 use Rattle.typst_language.proofs.parser.Parser.further.Goals as goal
 
@@ -23,6 +14,4 @@ returns g c l h =
     let len = distance a.start a.after in
     let there : place a.after ≡ moved (gap + len) (place a.before) = s.after ∙ ap (moved len) s.start ∙ sym (moved-sum gap len (place a.before)) in
     let hull = c.in_ok-next.ensures.scans.hull ∙ ap (λ (q : CharClasses). token_hull q m (place a.after)) (sym k) ∙ ap (λ (z : Place). token_hull l.classes m z) there in
-    rw (sym c.self.view_is)
-    (further-is l _ _ _ (ap (λ r. r.0.kind) (sym c.in_ok-next.ensures.scans.reads) ∙ ap (λ (q : CharClasses). (token_at q m (place a.after)).kind) (sym k) ∙ ap (λ (z : Place). (token_at l.classes m z).kind) there)
-    (ap (λ (x : Log). record (view_of i) { log = x }) (c.look.ensures ∙ ap (λ (u : Hull). with_hull u i.log) hull)))
+    grind (arith, common_steps, further-is)

@@ -1,10 +1,6 @@
-use Rattle.std.proofs.Common.{◌≡◌, ◌∙◌, ◌<◌, true, Some, length, refl, ap, sym, arith}
-use Rattle.std.specs.Prelude.{slice_get}
+use Rattle.typst_language.proofs.Cited.{◌≡◌, ◌∙◌, true, Some, refl, ap, sym, arith, is_leaf, bytes_left, View, place_after_paren, slice_get}
 use Rattle.std.proofs.lemmas.Option.{slice_get-get_or}
-use Rattle.typst_lexer.specs.Nodes.{is_leaf}
-use Rattle.typst_language.specs.Bytes.{bytes_left}
 use Rattle.typst_language.proofs.Knowing.{found-is, place-after}
-use Rattle.typst_language.specs.View.{View, place_after_paren}
 use Rattle.typst_language.proofs.parser.Parser.guessed.Goals as goal
 
 pub entries-init : goal.entries-init
@@ -23,12 +19,7 @@ returns-then-is_this g c l n f =
     (n ∙ sym c.levels.ensures) this.levels this.outer this.paren
 
 pub entries-smaller : goal.entries-smaller
-entries-smaller g c =
-    let found = rw c.deref.ensures.value at c.in-Some.ensures.lookup in
-    let there : c.entries.at < length c.self.inside.memo.items = found.3.0 in
-    let at = c.saturating_add-at.ensures in
-    let small = c.saturating_add-at.type_inv in
-    omega arith
+entries-smaller g c = grind arith
 
 pub entries-preserved : goal.entries-preserved
 entries-preserved g c = tt

@@ -1,7 +1,4 @@
-use Rattle.std.proofs.Common.{◌∙◌, ap, sym}
-use Rattle.typst_lines.specs.Scanner.{place}
-use Rattle.typst_language.specs.Log.{Log}
-use Rattle.typst_language.specs.Cursor.{view_of}
+use Rattle.typst_language.proofs.Cited.{◌∙◌, ap, sym, place, Log, view_of}
 use Rattle.typst_language.proofs.ReadSo.{found-so, so-is}
 use Rattle.typst_language.proofs.parser.Parser.kind_so.Goals as goal
 

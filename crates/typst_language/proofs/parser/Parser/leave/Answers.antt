@@ -1,9 +1,5 @@
-use Rattle.std.proofs.Common.{Bool, None, if◌then◌else◌, ◌∙◌, refl, sym, ap}
-use Rattle.typst_lines.specs.Place.{Place}
-use Rattle.typst_language.specs.Hand.{judged, column_at, known_by}
-use Rattle.typst_language.specs.Bytes.{column_hull}
+use Rattle.typst_language.proofs.Cited.{Bool, None, if◌then◌else◌, ◌∙◌, refl, sym, ap, Place, judged, column_at, known_by, column_hull, hand_of_ahead}
 use Rattle.typst_language.proofs.Ready.{left-again, left-kept, left-judged, was-read}
-use Rattle.typst_language.specs.AheadCursor.{hand_of_ahead}
 use Rattle.typst_language.proofs.Trivia.{same-hand}
 use Rattle.typst_language.proofs.parser.Parser.leave.Goals as goal
 

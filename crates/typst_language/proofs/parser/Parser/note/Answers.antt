@@ -1,10 +1,4 @@
-use Rattle.std.proofs.Common.{◌∙◌, ap, sym}
-use Rattle.std.proofs.lemmas.Str.{IsUtf8-had}
-use Rattle.typst_tokens.specs.Sight.{position}
-use Rattle.typst_tokens.proofs.Sights.{offset-is}
-use Rattle.typst_language.specs.Log.{Log, with_hull}
-use Rattle.typst_language.specs.Cursor.{view_of}
-use Rattle.typst_language.specs.Noted.{with_noted}
+use Rattle.typst_language.proofs.Cited.{◌∙◌, ap, sym, IsUtf8-had, position, offset-is, Log, with_hull, view_of, with_noted}
 use Rattle.typst_language.proofs.Ready.{noted-is}
 use Rattle.typst_language.proofs.parser.Parser.note.Goals as goal
 

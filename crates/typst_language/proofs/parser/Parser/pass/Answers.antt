@@ -1,5 +1,4 @@
-use Rattle.std.proofs.Common.{◌∙◌}
-use Rattle.typst_language.specs.Shape.Making.{itself}
+use Rattle.typst_language.proofs.Cited.{◌∙◌, itself}
 use Rattle.typst_language.proofs.parser.Parser.pass.Goals as goal
 use Rattle.typst_language.proofs.parser.Parser.pass.Goals.{then-has_leaf+in_ok-node, else-has_leaf+in_ok-node-2}
 

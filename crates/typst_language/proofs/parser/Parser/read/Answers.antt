@@ -1,14 +1,4 @@
-use Rattle.std.proofs.Common.{Bool, None, if◌then◌else◌, ◌∙◌, refl, sym, ap}
-use Rattle.typst_lines.specs.Place.{moved}
-use Rattle.typst_lines.specs.Scanner.{place}
-use Rattle.typst_lines.specs.declared.scanner.Scanner.{Scanner}
-use Rattle.typst_lines.specs.Classes.{CharClasses}
-use Rattle.typst_tokens.specs.declared.hull.Hull.{Hull}
-use Rattle.typst_language.specs.Hand.{hand_at, known_by}
-use Rattle.typst_language.specs.Log.{with_hull}
-use Rattle.typst_language.specs.Bytes.{token_hull, whole_at}
-use Rattle.typst_language.specs.Cursor.{view_of}
-use Rattle.typst_language.specs.AheadCursor.{distance, hand_of_ahead}
+use Rattle.typst_language.proofs.Cited.{Bool, None, if◌then◌else◌, ◌∙◌, refl, sym, ap, moved, place, Scanner, CharClasses, Hull, hand_at, known_by, with_hull, token_hull, whole_at, view_of, distance, hand_of_ahead}
 use Rattle.typst_language.proofs.Ready.{looked-is}
 use Rattle.typst_language.proofs.parser.Parser.read.Goals as goal
 

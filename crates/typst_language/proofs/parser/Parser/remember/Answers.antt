@@ -1,7 +1,4 @@
-use Rattle.std.proofs.Common.{List, ◌∙◌, refl, ap, sym}
-use Rattle.typst_language.specs.Bytes.{bytes_left}
-use Rattle.typst_language.specs.Cursor.{view_of}
-use Rattle.typst_language.specs.declared.memo.Guessed.{Guessed}
+use Rattle.typst_language.proofs.Cited.{List, ◌∙◌, refl, ap, sym, bytes_left, view_of, Guessed}
 use Rattle.typst_language.proofs.Knowing.{place-after, remembers-more, remembers-same}
 use Rattle.typst_language.proofs.parser.Parser.remember.Goals as goal
 

@@ -1,7 +1,4 @@
-use Rattle.std.proofs.Common.{◌∙◌, ap, sym}
-use Rattle.std.proofs.lemmas.Str.{IsUtf8-had}
-use Rattle.typst_tokens.specs.Sight.{position}
-use Rattle.typst_tokens.proofs.Sights.{offset-is}
+use Rattle.typst_language.proofs.Cited.{◌∙◌, ap, sym, IsUtf8-had, position, offset-is}
 use Rattle.typst_language.proofs.parser.Parser.token_start.Goals as goal
 
 pub returns : goal.returns

@@ -1,7 +1,4 @@
-use Rattle.std.proofs.Common.{[], ap, ◌∙◌}
-use Rattle.typst_tree.specs.Messages.{made_unexpected}
-use Rattle.typst_language.specs.Shape.Making.{surprise}
-use Rattle.typst_language.specs.Steps.{unexpected}
+use Rattle.typst_language.proofs.Cited.{[], ap, ◌∙◌, made_unexpected, surprise, unexpected}
 use Rattle.typst_language.proofs.parser.Parser.unexpected.Goals as goal
 
 pub returns : goal.returns

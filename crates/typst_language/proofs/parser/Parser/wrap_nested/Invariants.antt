@@ -1,6 +1,4 @@
-use Rattle.std.proofs.Common.{◌≡◌, length}
-use Rattle.typst_language.specs.Shape.{becomes}
-use Rattle.typst_language.specs.View.{rewrapped_each}
+use Rattle.typst_language.proofs.Cited.{◌≡◌, length, becomes, rewrapped_each}
 use Rattle.typst_language.proofs.parser.Parser.wrap_nested.Given as goal
 
 abbrev pub invariant-froms : goal.invariant-froms

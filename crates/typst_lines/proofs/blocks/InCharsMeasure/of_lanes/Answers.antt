@@ -1,6 +1,4 @@
-use Rattle.std.proofs.Common.{ℕ, Bool, ◌||◌, nat_lt, nat_le, leb, ltb, cond, bit_or, refl, arith}
-use Rattle.std.proofs.lemmas.Simd.{length-chunk}
-use lib.Lanes.{chunk}
+use Rattle.typst_lines.proofs.Cited.{ℕ, Bool, ◌||◌, nat_lt, nat_le, leb, ltb, cond, bit_or, refl, arith, length-chunk, chunk}
 use Rattle.typst_lines.proofs.Lanes.{joined, with_splat, onto_splat, lanes-counted, count-small}
 use Rattle.typst_lines.proofs.blocks.InCharsMeasure.of_lanes.Goals as goal
 

@@ -1,6 +1,4 @@
-use Rattle.std.proofs.Common.{◌||◌, nat_lt, nat_le, leb, cond, refl, arith, slice_range, ◌+◌}
-use Rattle.std.proofs.lemmas.Simd.{length-chunk}
-use lib.Lanes.{chunk}
+use Rattle.typst_lines.proofs.Cited.{◌||◌, nat_lt, nat_le, leb, cond, refl, arith, slice_range, ◌+◌, length-chunk, chunk}
 use Rattle.typst_lines.proofs.Lanes.{onto_splat, lanes-counted, count-small, units-parts}
 use Rattle.typst_lines.proofs.blocks.InUnitsMeasure.of_lanes.Goals as goal
 

@@ -1,6 +1,4 @@
-use Rattle.std.proofs.Common.{sym, ◌∙◌}
-use Rattle.std.specs.Str.{chars}
-use Rattle.unicode_segmentation.specs.Segments.{segments}
+use Rattle.typst_lines.proofs.Cited.{sym, ◌∙◌, arith, chars, segments}
 use Rattle.typst_lines.proofs.AsciiClusters.{front_cluster, not_all}
 use Rattle.typst_lines.proofs.ClusterLemmas.{more}
 use Rattle.typst_lines.proofs.UnicodeCluster.{first_cluster, no_cluster}
@@ -12,8 +10,7 @@ returns-then-begins_alone c =
 
 pub returns-in-Some : goal.returns-in-Some
 unfolding segments
-returns-in-Some c =
-    first_cluster c.args.line.now c.utf8.line c.requires.some _ _ (not_all (chars c.args.line.now) (sym c.begins_alone.ensures ∙ c.if-begins_alone.false)) (sym c.graphemes.ensures.left ∙ c.in-Some.ensures.steps)
+returns-in-Some c = grind (arith, first_cluster, not_all)
 
 pub returns-in-None : goal.returns-in-None
 unfolding segments

@@ -1,14 +1,10 @@
-use Rattle.std.proofs.Common.{◌≡◌, ◌+◌, ◌-◌, ◌∙◌, ◌++◌, length, take, drop, refl, ap, sym, subst, arith, string_bytes, slice_range}
-use Rattle.std.specs.Str.{IsUtf8}
-use Rattle.typst_lines.specs.Edited.{IsEdit}
-use Rattle.typst_lines.specs.Lines.{line_table, line_of, lines_after}
-use Rattle.typst_lines.specs.Pending.{AddsStarts}
+use Rattle.typst_lines.proofs.Cited.{common_steps, ◌≡◌, ◌+◌, ◌-◌, ◌∙◌, length, refl, ap, sym, subst, arith, string_bytes, slice_range, IsUtf8, IsEdit, line_table, line_of, lines_after, AddsStarts}
 use Rattle.typst_lines.proofs.Edited.{kept-front, start-boundary, end-boundary}
 use Rattle.typst_lines.proofs.Pending.{edit-of, back-is, restored, sizes, pending}
 use Rattle.typst_lines.proofs.lines.Lines+String.edited.Goals as goal
 
 pub invariant_of-result : goal.invariant_of-result
-invariant_of-result c = c.self.invariant ∙ ap line_table (sym c.reserve.ensures.bytes)
+invariant_of-result c = grind (arith, common_steps)
 
 pub add_starts-requires : goal.add_starts-requires
 add_starts-requires c =

@@ -1,10 +1,6 @@
-use Rattle.std.proofs.Common.{◌≡◌, ◌∙◌, ap, sym, subst, true, false, nat_eq, drop}
-use Rattle.std.specs.Cmp.Lexicographic.{pointwise}
-use Rattle.std.specs.Str.{IsUtf8}
+use Rattle.typst_lines.proofs.Cited.{common_steps, ◌≡◌, ◌∙◌, ap, drop, arith, common_ends}
 use Rattle.typst_lines.proofs.CommonEnds.{common_ends-at, pointwise-same, take-all}
 use Rattle.typst_lines.proofs.ReplaceLaw.{replaces}
-use Rattle.typst_lines.specs.Lines.{common_ends}
-use Rattle.typst_lines.specs.Replacement.{Replaces}
 use Rattle.typst_lines.proofs.lines.Lines+String.replacement_range.Goals as goal
 
 pub returns : goal.returns
@@ -15,7 +11,4 @@ returns c =
     let n = c.common_front_len-front.result in
     let m = c.common_end_len.result in
     let is : (n, m) ≡ common_ends old new = common_ends-at old new t c.range_from.result.now c.range_from-2.result.now n m c.text-old.ensures c.common_front_len-front.ensures (c.range_from.ensures.value ∙ ap (drop n) (take-all t)) (c.range_from-2.ensures.value ∙ ap (drop n) (take-all new)) c.common_end_len.ensures in
-    record {
-      value = (λ e. let bad : false ≡ true = c.if-eq.ensures ∙ ap (λ x. pointwise nat_eq x new) (c.text-old.ensures ∙ e) ∙ pointwise-same new in absurd (cc), is);
-      replaces = subst (Replaces old new) (sym is) (replaces old new (subst IsUtf8 c.text-old.ensures c.text-old.utf8) c.utf8.new);
-    }
+    grind (arith, common_steps, pointwise-same, replaces)

@@ -1,14 +1,9 @@
-use Rattle.std.proofs.Common.{◌≡◌, arith, rules, ap, sym, subst, ◌∙◌, length, nat_le, refl}
-use Rattle.std.proofs.lemmas.List.Sorted.{IsPartitionPoint-from_clause, IsPartitionedBy-leb}
-use Rattle.std.specs.List.Sorted.{IsNonDecreasingBy}
+use Rattle.typst_lines.proofs.Cited.{◌≡◌, arith, rules, ap, sym, subst, ◌∙◌, nat_le, refl, IsNonDecreasingBy, line_table, Line, IsPartitionPoint-from_clause, IsPartitionedBy-leb}
 use Rattle.typst_lines.proofs.TableOrder.{IsLineUpTo-read, units-ordered, table-some}
-use Rattle.typst_lines.specs.Lines.{line_table}
-use Rattle.typst_lines.specs.declared.lines.Line.{Line}
 use Rattle.typst_lines.proofs.lines.Lines.line_before_utf16.Goals as goal
 
 pub bounds-lines-saturating_sub : goal.bounds-lines-saturating_sub
-bounds-lines-saturating_sub g c =
-    omega (arith, ap length (c.as_slice-lines.ensures.value ∙ c.self.invariant ∙ ap line_table c.self.view_is), table-some c.args.self.now, c.partition_point-after.ensures.bound)
+bounds-lines-saturating_sub g c = grind (arith, table-some)
 
 pub returns : goal.returns
 returns g c =

@@ -1,10 +1,6 @@
-use Rattle.std.proofs.Common.{◌≡◌, ◌∙◌, ◌+◌, ap, sym, subst, arith, Some, refl, length, slice_range, List, ℕ}
-use Rattle.std.specs.Str.{IsUtf8, chars}
-use Rattle.std.specs.declared.ops.Range.{Range}
+use Rattle.typst_lines.proofs.Cited.{◌≡◌, ◌∙◌, ◌+◌, ap, sym, subst, arith, Some, refl, slice_range, List, ℕ, IsUtf8, chars, place_at, place, Range}
 use Rattle.typst_lines.proofs.Counts.{HasPassed-front}
 use Rattle.typst_lines.proofs.RoundTrip.{IsSoundRange, line_range-sound, HasPassed, HasPassed-more, byte_at-short, byte_at-found, byte_at-none}
-use Rattle.typst_lines.specs.Place.{place_at}
-use Rattle.typst_lines.specs.Scanner.{place}
 use Rattle.typst_lines.proofs.lines.Lines.line_column_to_byte.Goals as goal
 
 pub range-line-requires : goal.range-line-requires
@@ -46,10 +42,6 @@ loop-i-preserved g c =
       passed = HasPassed-more (chars c.jump.new.self.text.now) c.loop-i.i c.loop-i.scanner.cursor p (place c.eat.new.self) c.in_ok-eat.field-0 c.eat.new.self.cursor c.loop-i.invariant.passed e.next e.moved e.width;
       same_text = e.same_text ∙ c.loop-i.invariant.same_text;
     }
-
-pub overflow_add-result : goal.overflow_add-result
-overflow_add-result g c =
-    omega (arith, c.loop-i.scanner.boundary.0, ap length c.loop-i.invariant.same_text, ap length c.jump.ensures.same_text, ap length c.new-scanner.ensures.text, c.range-line.ensures.len, c.text.type_inv)
 
 pub returns : goal.returns
 returns g c =

@@ -1,7 +1,5 @@
-use Rattle.std.proofs.Common.{◌≡◌}
-use Rattle.std.specs.Str.{chars}
+use Rattle.typst_lines.proofs.Cited.{◌≡◌, chars, place}
 use Rattle.typst_lines.proofs.RoundTrip.{HasPassed}
-use Rattle.typst_lines.specs.Scanner.{place}
 use Rattle.typst_lines.proofs.lines.Lines.line_column_to_byte.Given as goal
 
 abbrev pub invariant-loop-i : goal.invariant-loop-i

@@ -1,9 +1,5 @@
-use Rattle.std.proofs.Common.{◌≡◌, ◌-◌, arith, rules, sym, ap, ◌∙◌, subst, nat_le, length, count_by}
-use Rattle.std.proofs.lemmas.List.Sorted.{IsPartitionPoint-from_clause, IsPartitionedBy-leb}
-use Rattle.std.specs.List.Sorted.{IsNonDecreasingBy}
+use Rattle.typst_lines.proofs.Cited.{◌≡◌, ◌-◌, arith, rules, sym, ap, ◌∙◌, subst, nat_le, count_by, IsNonDecreasingBy, line_table, line_of, Line, IsPartitionPoint-from_clause, IsPartitionedBy-leb}
 use Rattle.typst_lines.proofs.TableOrder.{count_by-point, bytes-ordered, table-some}
-use Rattle.typst_lines.specs.Lines.{line_table, line_of}
-use Rattle.typst_lines.specs.declared.lines.Line.{Line}
 use Rattle.typst_lines.proofs.lines.Lines.line_holding.Goals as goal
 
 pub returns-clause-value : goal.returns-clause-value
@@ -18,6 +14,4 @@ returns-clause-value g c =
     ∙ ap (λ n. n - 1) (sym (count_by-point _ xs _ c.partition_point.ensures.bound point) ∙ ap (count_by (λ (l : Line). nat_le l.byte_idx c.args.byte_idx)) table)
 
 pub returns-clause-within : goal.returns-clause-within
-returns-clause-within g c =
-    let table = c.as_slice.ensures.value ∙ c.self.invariant ∙ ap line_table c.self.view_is in
-    omega (arith, ap length table, table-some c.args.self.now, c.partition_point.ensures.bound, c.saturating_sub.ensures)
+returns-clause-within g c = grind (arith, table-some)

@@ -1,10 +1,6 @@
-use Rattle.std.proofs.Common.{arith, ap, ◌∙◌, length}
+use Rattle.typst_lines.proofs.Cited.{arith, ap, ◌∙◌, length, line_table}
 use Rattle.typst_lines.proofs.TableOrder.{IsLineOf-read}
-use Rattle.typst_lines.specs.Lines.{line_table}
 use Rattle.typst_lines.proofs.lines.Lines.numbered_line.Goals as goal
-
-pub index-requires : goal.index-requires
-index-requires g c = omega (arith, ap length (c.self.invariant ∙ ap line_table c.self.view_is), c.line_holding-number.ensures.within)
 
 pub returns-clause-line : goal.returns-clause-line
 returns-clause-line g c =

@@ -1,7 +1,5 @@
-use Rattle.std.proofs.Common.{◌≡◌, ◌-◌, false}
+use Rattle.typst_lines.proofs.Cited.{◌≡◌, ◌-◌, false, units, least_place, place}
 use Rattle.typst_lines.proofs.RoundTrip.{reach, overshot}
-use Rattle.typst_lines.specs.Lines.{units, least_place}
-use Rattle.typst_lines.specs.Scanner.{place}
 use Rattle.typst_lines.proofs.lines.Lines.utf16_to_byte.Given as goal
 
 abbrev pub invariant-loop-left : goal.invariant-loop-left

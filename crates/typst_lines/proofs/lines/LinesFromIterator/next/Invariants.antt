@@ -1,6 +1,4 @@
-use Rattle.std.proofs.Common.{◌≡◌, ◌-◌, length}
-use Rattle.std.specs.Str.{IsCharBoundary}
-use Rattle.typst_lines.specs.Lines.{lines_after, utf16_before}
+use Rattle.typst_lines.proofs.Cited.{◌≡◌, ◌-◌, length, IsCharBoundary, lines_after, utf16_before}
 use Rattle.typst_lines.proofs.lines.LinesFromIterator.next.Given as goal
 
 abbrev pub invariant-loop-c : goal.invariant-loop-c

@@ -1,5 +1,4 @@
-use Rattle.std.proofs.Common.{ap, ◌∙◌}
-use Rattle.std.specs.Str.{chars}
+use Rattle.typst_lines.proofs.Cited.{ap, ◌∙◌, chars}
 use Rattle.typst_lines.proofs.PlaceLemmas.{chars-ahead}
 use Rattle.typst_lines.proofs.scanner.Scanner.after.Goals as goal
 

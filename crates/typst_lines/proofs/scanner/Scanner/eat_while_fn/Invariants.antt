@@ -1,7 +1,4 @@
-use Rattle.std.proofs.Common.{◌≡◌, ◌-◌, length, ℕ, Bool}
-use Rattle.std.specs.Char.{IsScalar}
-use Rattle.std.specs.Str.{IsCharBoundary}
-use Rattle.typst_lines.specs.Place.{place_at, past}
+use Rattle.typst_lines.proofs.Cited.{◌≡◌, ◌-◌, length, ℕ, Bool, IsScalar, IsCharBoundary, place_at, past}
 use Rattle.typst_lines.proofs.scanner.Scanner.eat_while_fn.Given as goal
 
 abbrev pub invariant-loop-c : goal.invariant-loop-c

@@ -1,6 +1,4 @@
-use Rattle.std.proofs.Common.{◌≡◌, drop}
-use Rattle.typst_lines.specs.Place.{moved, word_at}
-use Rattle.typst_lines.specs.Scanner.{place}
+use Rattle.typst_lines.proofs.Cited.{◌≡◌, drop, moved, word_at, place}
 use Rattle.typst_lines.proofs.scanner.Scanner.eat_word.Given as goal
 
 abbrev pub invariant-loop-b : goal.invariant-loop-b

@@ -1,5 +1,4 @@
-use Rattle.std.proofs.Common.{◌≡◌, ◌-◌, slice_get}
-use Rattle.typst_lines.specs.Scanner.{place}
+use Rattle.typst_lines.proofs.Cited.{◌≡◌, ◌-◌, slice_get, place}
 use Rattle.typst_lines.proofs.scanner.Scanner.nth_ahead.Given as goal
 
 abbrev pub invariant-loop-i : goal.invariant-loop-i

@@ -1,9 +1,4 @@
-use Rattle.std.proofs.Common.{◌≡◌, ◌+◌, ◌∷◌, ◌∙◌, ap, sym, arith, drop}
-use Rattle.std.proofs.lemmas.Grind.{common_steps}
-use Rattle.std.proofs.lemmas.List.{drop_more}
-use Rattle.typst_tree.specs.Tree.{forest}
-use Rattle.typst_names.specs.Around.{kid_at}
-use Rattle.typst_names.specs.Bytes.{behind}
+use Rattle.typst_names.proofs.Cited.{◌≡◌, ◌+◌, ◌∷◌, ◌∙◌, ap, sym, arith, drop, common_steps, drop_more, forest, kid_at, behind}
 use Rattle.typst_names.proofs.HoldingNodes.{around-passed, around-held, kid-passed, kid-held}
 use Rattle.typst_names.proofs.places.Placed.child_at.Goals as goal
 

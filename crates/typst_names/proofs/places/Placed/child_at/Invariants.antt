@@ -1,8 +1,4 @@
-use Rattle.std.proofs.Common.{◌≡◌, ◌<◌, drop}
-use Rattle.typst_tree.specs.Tree.{forest, count, nodes}
-use Rattle.typst_names.specs.Around.{kid_at}
-use Rattle.typst_names.specs.Bytes.{inner}
-use Rattle.typst_names.specs.Selections.{around}
+use Rattle.typst_names.proofs.Cited.{◌≡◌, ◌<◌, drop, forest, count, nodes, kid_at, inner, around}
 use Rattle.typst_names.proofs.places.Placed.child_at.Given as goal
 
 abbrev pub invariant-loop-node : goal.invariant-loop-node

@@ -1,5 +1,4 @@
-use Rattle.std.proofs.Common.{◌∙◌, sym}
-use Rattle.typst_tree.specs.Tree.{none}
+use Rattle.typst_names.proofs.Cited.{◌∙◌, sym, none}
 use Rattle.typst_names.proofs.HoldingNodes.{around-passed}
 use Rattle.typst_names.proofs.places.Placed.if_holds.Goals as goal
 

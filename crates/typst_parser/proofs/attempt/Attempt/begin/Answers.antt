@@ -1,7 +1,4 @@
-use Rattle.std.proofs.Common.{◌≡◌, ℕ, Bool, refl, subst}
-use Rattle.std.proofs.lemmas.Option.{same_Some}
-use Rattle.typst_lines.specs.Place.{place_at}
-use Rattle.typst_edits.specs.Part.{HasRead}
+use Rattle.typst_parser.proofs.Cited.{◌≡◌, ℕ, Bool, refl, subst, same_Some, place_at, HasRead}
 use Rattle.typst_parser.proofs.attempt.Attempt.begin.Goals as goal
 
 pub returns-in_default : goal.returns-in_default

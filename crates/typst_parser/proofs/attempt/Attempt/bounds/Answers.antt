@@ -1,39 +1,19 @@
-use Rattle.std.proofs.Common.{◌<◌, length, sym, subst}
-use Rattle.typst_edits.specs.RunTest.{IsLast}
-use Rattle.typst_parser.specs.Attempt.{at_path}
+use Rattle.typst_parser.proofs.Cited.{arith, IsLast, at_path}
 use Rattle.typst_parser.proofs.Numbers.{begins-after}
 use Rattle.typst_parser.proofs.Runs.{bounds-last, bounds-more, ends-begin, ends-more, found-after, found-by, is-found, looks-found, none-by, none-found}
 use Rattle.typst_parser.proofs.attempt.Attempt.bounds.Goals as goal
 
 pub returns-in_err-from : goal.returns-in_err-from
-returns-in_err-from g c = λ path from to looks ends l.
-    let es = c.args.self.now.records.now.units.entries in
-    let d = at_path path c.args.candidate in
-    absurd (none-by es c.args.run.first_entry d.start from c.run_place.result c.run_place.ensures.entries c.run_place.ensures.piece c.in_err-from.ensures (ends-begin es c.args.run.first_entry d from to ends))
+returns-in_err-from g c = grind (arith, none-by, ends-begin)
 
 pub is_last-requires : goal.is_last-requires
-is_last-requires g c =
-    let es = c.args.self.now.records.now.units.entries in
-    let first = c.args.run.first_entry in
-    let at = c.args.candidate.start in
-    found-after es first at c.in_ok-from.from (found-by es first at c.run_place.result c.in_ok-from.from c.run_place.ensures.entries c.run_place.ensures.piece c.in_ok-from.ensures)
+is_last-requires g c = grind (arith, found-after, found-by)
 
 pub looks_at_end-requires-clause-within : goal.looks_at_end-requires-clause-within
-looks_at_end-requires-clause-within g c =
-    let es = c.args.self.now.records.now.units.entries in
-    let first = c.args.run.first_entry in
-    let at = c.args.candidate.start in
-    let found = found-by es first at c.run_place.result c.in_ok-from.from c.run_place.ensures.entries c.run_place.ensures.piece c.in_ok-from.ensures in
-    subst (λ n. n < length es) (sym c.number.ensures) (begins-after first at es c.in_ok-from.from.number found.0).most
+looks_at_end-requires-clause-within g c = grind (arith, found-by, begins-after)
 
 pub returns-in_err-looks : goal.returns-in_err-looks
-returns-in_err-looks g c = λ path from to looks ends l.
-    let es = c.args.self.now.records.now.units.entries in
-    let first = c.args.run.first_entry in
-    let d = at_path path c.args.candidate in
-    let place = c.in_ok-from.from in
-    let found = found-by es first d.start c.run_place.result place c.run_place.ensures.entries c.run_place.ensures.piece c.in_ok-from.ensures in
-    absurd (looks-found es first d from to ends place found c.args.run.kind looks l (c.is_last.ensures.0 c.if-is_last.true) c.number.result c.number.ensures c.in_err-looks.ensures.text c.in_err-looks.ensures.block)
+returns-in_err-looks g c = grind (arith, found-by, looks-found)
 
 pub returns-then-is_last : goal.returns-then-is_last
 returns-then-is_last g c = λ path from to looks ends l.
@@ -46,14 +26,7 @@ returns-then-is_last g c = λ path from to looks ends l.
     c.in_ok-looks.ensures.block
 
 pub returns-in_err-to : goal.returns-in_err-to
-returns-in_err-to g c = λ path from to looks ends l.
-    let es = c.args.self.now.records.now.units.entries in
-    let first = c.args.run.first_entry in
-    let d = at_path path c.args.candidate in
-    let place = c.in_ok-from.from in
-    let found = found-by es first d.start c.run_place.result place c.run_place.ensures.entries c.run_place.ensures.piece c.in_ok-from.ensures in
-    let other : IsLast place.entries place.number → ⊥ = λ last. (let yes = c.is_last.ensures.1 last in let never = c.if-is_last.false in absurd (cc)) in
-    absurd (none-found es place.number d.end to place found.1 c.in_err-to.ensures (ends-more es first d from to ends place found other))
+returns-in_err-to g c = grind (arith, found-by, none-found, ends-more)
 
 pub returns : goal.returns
 returns g c = λ path from to looks ends l.

@@ -1,6 +1,4 @@
-use Rattle.std.proofs.Common.{◌<◌, ◌≤◌, Some, refl, sym, subst}
-use Rattle.typst_edits.specs.Served.{reading_of}
-use Rattle.typst_parser.specs.Steps.{ServesNow, ServesOr}
+use Rattle.typst_parser.proofs.Cited.{◌<◌, ◌≤◌, Some, refl, sym, subst, reading_of, ServesNow, ServesOr}
 use Rattle.typst_parser.proofs.RunSteps.{step-again, step-end-no, step-ends, step-fail, step-first, step-looks, step-looks-no, step-pass, step-places, step-some, step-there, step-to}
 use Rattle.typst_parser.proofs.Serving.{for-or}
 use Rattle.typst_parser.proofs.attempt.Attempt.passing.Goals as goal
@@ -13,17 +11,15 @@ bounds-requires-clause-fits g c = step-places (g.C.Classes.classes c.args.self.n
 
 pub returns-in_default : goal.returns-in_default
 returns-in_default g c = λ ch path h.
-    let k = g.C.Classes.classes c.args.self.now.asked.now.classes.now in
-    absurd (c.in_default.ensures path h.found.from h.found.to h.found.looks (step-ends k c.args.self.now ch path c.args.candidate c.args.run c.args.serving.now h) (step-looks k c.args.self.now ch path c.args.candidate c.args.run c.args.serving.now h))
+    absurd (c.in_default.ensures path h.found.from h.found.to h.found.looks (step-ends _ c.args.self.now ch path c.args.candidate c.args.run c.args.serving.now h) (step-looks _ c.args.self.now ch path c.args.candidate c.args.run c.args.serving.now h))
 
 pub returns-then-not-looks_pass : goal.returns-then-not-looks_pass
 returns-then-not-looks_pass g c = λ ch path h.
-    let k = g.C.Classes.classes c.args.self.now.asked.now.classes.now in
     let self = c.args.self.now in
     let same : (c.in-Some.bounds.from.number < self.asked.now.front) × (self.asked.now.rear ≤ c.in-Some.bounds.looks) → (c.number.result < self.asked.now.front) × (self.asked.now.rear ≤ c.in-Some.bounds.looks) =
     subst (λ n. (n < self.asked.now.front) × (self.asked.now.rear ≤ c.in-Some.bounds.looks)) (sym c.number.ensures) in (
-      step-looks-no k self ch path c.args.candidate c.args.run c.args.serving.now h c.in-Some.bounds c.in-Some.ensures (λ p. (let yes = c.looks_pass.ensures.1 (same p) in let never = c.if-not-looks_pass.true in absurd (cc))),
-      for-or k ch self.root.now path c.args.candidate c.args.serving.now h.serves,
+      step-looks-no _ self ch path c.args.candidate c.args.run c.args.serving.now h c.in-Some.bounds c.in-Some.ensures (λ p. (let yes = c.looks_pass.ensures.1 (same p) in let never = c.if-not-looks_pass.true in absurd (cc))),
+      for-or _ ch self.root.now path c.args.candidate c.args.serving.now h.serves,
     )
 
 pub returns-in_default-new_end : goal.returns-in_default-new_end
@@ -43,15 +39,12 @@ serving-requires g c =
 
 pub returns-in_default-2 : goal.returns-in_default-2
 returns-in_default-2 g c = λ ch path h.
-    let k = g.C.Classes.classes c.args.self.now.asked.now.classes.now in
     let self = c.args.self.now in
     let root = c.args.self.now.root.now in
-    let d = c.args.candidate in
     let run = c.args.run in
-    let o = c.args.serving.now in
     let test = subst (λ n. (n < self.asked.now.front) × (self.asked.now.rear ≤ c.in-Some.bounds.looks)) c.number.ensures (c.looks_pass.ensures.0 c.if-not-looks_pass.false) in
-    let there = step-there k self ch path d run o h c.in-Some.bounds c.in-Some.ensures test in
-    absurd (subst (ServesNow k ch root path d run) c.in_default-2.is (c.in_ok-current.ensures.begun ch path h there))
+    let there = step-there _ self ch path _ run c.args.serving.now h c.in-Some.bounds c.in-Some.ensures test in
+    absurd (subst (ServesNow _ ch root path _ run) c.in_default-2.is (c.in_ok-current.ensures.begun ch path h there))
 
 pub read_to-requires : goal.read_to-requires
 read_to-requires g c =

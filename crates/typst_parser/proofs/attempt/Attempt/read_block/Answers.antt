@@ -1,5 +1,4 @@
-use Rattle.std.proofs.Common.{◌+◌, sym, ap, ◌∙◌, refl, arith}
-use Rattle.typst_parser.specs.Attempt.{at_path}
+use Rattle.typst_parser.proofs.Cited.{◌+◌, sym, ap, ◌∙◌, refl, arith, at_path}
 use Rattle.typst_parser.proofs.Blocks.{unopened}
 use Rattle.typst_parser.proofs.BlockSteps.{end-no, looks-no, no-end, none-read, part-of, read-few, read-fits, start-boundary, starts-few}
 use Rattle.typst_parser.proofs.Answering.{places-fit}
@@ -12,14 +11,10 @@ returns-in_default g c = λ path ch ready chosen.
     ready.makes chosen c.requires.block (sym c.in_default.ensures)
 
 pub after-requires : goal.after-requires
-after-requires g c =
-    let w = (opening-within c.args.candidate.start 0 0 c.args.self.now.records.now.units.entries c.in-Some.from_entry (sym c.in-Some.ensures)).most in omega (arith, w)
+after-requires g c = grind (arith, opening-within)
 
 pub closing-requires-clause-within : goal.closing-requires-clause-within
-closing-requires-clause-within g c =
-    let w = (opening-within c.args.candidate.start 0 0 c.args.self.now.records.now.units.entries c.in-Some.from_entry (sym c.in-Some.ensures)).most in
-    let b = c.after.ensures in
-    omega (arith, w, b)
+closing-requires-clause-within g c = grind (arith, opening-within)
 
 pub closing-requires-clause-fits : goal.closing-requires-clause-fits
 closing-requires-clause-fits g c =

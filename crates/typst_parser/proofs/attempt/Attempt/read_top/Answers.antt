@@ -1,13 +1,10 @@
-use Rattle.std.proofs.Common.{[], subst}
-use Rattle.typst_parser.specs.Steps.{Settles}
+use Rattle.typst_parser.proofs.Cited.{[], subst, arith, Settles}
 use Rattle.typst_parser.proofs.ReadSteps.{top-reads, top_run}
 use Rattle.typst_parser.proofs.RunSteps.{passing-few, passing-part, passing-start}
 use Rattle.typst_parser.proofs.attempt.Attempt.read_top.Goals as goal
 
 pub passing-requires : goal.passing-requires
-passing-requires g c =
-    let q = c.requires.tries in
-    (q.change, [], top-reads (g.C.Classes.classes c.args.self.now.asked.now.classes.now) c.args.self.now q.change c.args.candidate c.args.serving.now q.ready q.among c.requires.pieces q.serves)
+passing-requires g c = grind (arith, top-reads)
 
 pub returns-in_default : goal.returns-in_default
 returns-in_default g c = λ ch ready chosen serves.

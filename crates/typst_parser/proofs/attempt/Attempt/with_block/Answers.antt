@@ -1,9 +1,5 @@
-use Rattle.std.proofs.Common.{subst, ◌∙◌, refl, arith}
-use Rattle.std.proofs.lemmas.Option.{same_Some}
-use Rattle.typst_lines.specs.Place.{place_at}
+use Rattle.typst_parser.proofs.Cited.{subst, ◌∙◌, refl, arith, same_Some, place_at, block_alone, IsReadBlock}
 use Rattle.typst_edits.specs.Block.TheVariants as block
-use Rattle.typst_edits.specs.Part.{block_alone}
-use Rattle.typst_parser.specs.Steps.{IsReadBlock}
 use Rattle.typst_parser.proofs.Blocks.{says-closes}
 use Rattle.typst_parser.proofs.Places.{part-fits, place-sides}
 use Rattle.typst_parser.proofs.attempt.Attempt.with_block.Goals as goal

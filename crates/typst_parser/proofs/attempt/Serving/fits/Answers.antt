@@ -1,5 +1,4 @@
-use Rattle.std.proofs.Common.{◌<◌, sym, subst, ◌∙◌}
-use Rattle.typst_edits.specs.Served.{MeetsOn}
+use Rattle.typst_parser.proofs.Cited.{◌<◌, sym, subst, ◌∙◌, MeetsOn}
 use Rattle.typst_parser.proofs.attempt.Serving.fits.Goals as goal
 
 pub returns : goal.returns

@@ -1,5 +1,4 @@
-use Rattle.std.proofs.Common.{◌<◌, ◌≤◌, inl, inr, refl, subst, ◌∙◌}
-use Rattle.typst_edits.specs.Part.{HasReadOn}
+use Rattle.typst_parser.proofs.Cited.{◌<◌, ◌≤◌, inl, inr, refl, subst, ◌∙◌, HasReadOn}
 use Rattle.typst_parser.proofs.PieceReading.{reader-end, some-next}
 use Rattle.typst_parser.proofs.attempt.Serving.read_to.Goals as goal
 

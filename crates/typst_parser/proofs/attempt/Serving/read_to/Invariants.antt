@@ -1,7 +1,5 @@
-use Rattle.std.proofs.Common.{◌≡◌}
+use Rattle.typst_parser.proofs.Cited.{◌≡◌, Reading, HasReadSome}
 use Rattle.typst_edits.specs.Bytes-of-language.{bytes_left}
-use Rattle.typst_edits.specs.RunTest.{Reading}
-use Rattle.typst_parser.specs.Steps.{HasReadSome}
 use Rattle.typst_parser.proofs.attempt.Serving.read_to.Given as goal
 
 abbrev pub invariant-pieces : goal.invariant-pieces

@@ -1,6 +1,4 @@
-use Rattle.std.proofs.Common.{subst}
-use Rattle.typst_tree.specs.Boundaries.{IsBoundary}
-use Rattle.typst_parser.specs.Held.{Held}
+use Rattle.typst_parser.proofs.Cited.{subst, IsBoundary, Held}
 use Rattle.typst_parser.proofs.source.Source.boundary.Goals as goal
 
 pub returns : goal.returns

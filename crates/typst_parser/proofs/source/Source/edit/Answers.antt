@@ -1,9 +1,4 @@
-use Rattle.std.proofs.Common.{◌∙◌, ◌-◌, length, ap, subst, refl}
-use Rattle.typst_parser.specs.Answers.{change_of}
-use Rattle.typst_parser.specs.Headline.{edited}
-use Rattle.typst_parser.specs.Held.{Held}
-use Rattle.typst_parser.specs.Records.{ReadsWhole}
-use Rattle.typst_parser.specs.Tried.{AnswersEdit, Tries}
+use Rattle.typst_parser.proofs.Cited.{◌∙◌, ◌-◌, length, ap, subst, refl, change_of, edited, Held, ReadsWhole, AnswersEdit, Tries}
 use Rattle.typst_parser.proofs.Changed.{edited-by}
 use Rattle.typst_parser.proofs.Reparsed.{answers-whole}
 use Rattle.typst_parser.proofs.source.Source.edit.Goals as goal
@@ -15,7 +10,6 @@ returns-in-Some-clause-answer g c =
     let now = c.read_part.new.self in
     let text = edited old.text c.args.replace c.args.with.now in
     let read = subst (AnswersEdit k old now text (change_of old.text c.args.replace c.args.with.now)) c.in-Some.is c.in_ok-range.ensures.decided in
-    let has = read.0 in
     record { recorded = λ _. read.1; unrecorded = λ none. absurd (cc) }
 
 pub returns-clause-answer : goal.returns-clause-answer

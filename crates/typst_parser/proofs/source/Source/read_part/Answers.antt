@@ -1,16 +1,4 @@
-use Rattle.std.proofs.Common.{◌≡◌, ◌∙◌, ◌-◌, ◌<◌, ◌^◌, List, ℕ, true, length, Option, None, Ok, ap, sym, subst, refl, arith, rules}
-use Rattle.std.specs.Prelude.{IfSome}
-use Rattle.std.specs.Str.{IsCharBoundary}
-use Rattle.typst_tree.specs.Boundaries.{IsBoundary}
-use Rattle.typst_parser.specs.TextReplacement.{candidates}
-use Rattle.typst_edits.specs.Answer.{IsAnswer}
-use Rattle.typst_parser.specs.Reparse.{NonePasses}
-use Rattle.typst_parser.specs.Answers.{change_of}
-use Rattle.typst_parser.specs.Headline.{edited}
-use Rattle.typst_parser.specs.Held.{Held}
-use Rattle.typst_parser.specs.Records.{Edits}
-use Rattle.typst_parser.specs.Tried.{change_by}
-use Rattle.typst_parser.specs.declared.edited.Reread.{Reread}
+use Rattle.typst_parser.proofs.Cited.{◌≡◌, ◌∙◌, ◌-◌, ◌<◌, ◌^◌, List, ℕ, true, length, Option, None, Ok, ap, sym, subst, refl, arith, rules, IfSome, IsCharBoundary, IsBoundary, candidates, IsAnswer, NonePasses, change_of, edited, Held, Edits, change_by, Reread}
 use Rattle.typst_parser.proofs.Changed.{edited-by}
 use Rattle.typst_parser.proofs.Reparsed.{answer-again, edits-again, holds, makes-text, records-again}
 use Rattle.typst_parser.proofs.source.Source.read_part.Goals as goal

@@ -1,9 +1,5 @@
-use Rattle.std.proofs.Common.{◌≡◌, ◌∙◌, List, ℕ, None, refl, ap, subst, arith}
-use Rattle.std.specs.Str.{chars}
-use Rattle.typst_edits.specs.Grammar.{tree}
-use Rattle.typst_parser.specs.Held.{Held}
-use Rattle.typst_parser.specs.Headline.{file_of, numbered_in}
-use Rattle.typst_parser.proofs.Answered.{end-kept, on-ok, replaced}
+use Rattle.typst_parser.proofs.Cited.{refl, ap, arith, Held}
+use Rattle.typst_parser.proofs.Answered.{end-kept, on-ok}
 use Rattle.typst_parser.proofs.source.Source.replace.Goals as goal
 
 pub returns-in_default-clause-same : goal.returns-in_default-clause-same
@@ -19,11 +15,7 @@ pub edit-requires-clause-ordered : goal.edit-requires-clause-ordered
 edit-requires-clause-ordered g c = omega (arith, c.in-Some.ensures.replaces.ordered, c.len_bytes.ensures)
 
 pub returns-clause-text : goal.returns-clause-text
-returns-clause-text g c =
-    let is = replaced c.self.inside.lines c.args.self.now.text c.args.new.now c.range-with.result.now c.len_bytes.result c.in-Some.front c.in-Some.end (ap (λ (s : Held g.row.C.Denot). s.text) c.self.view_is) c.len_bytes.ensures c.range-with.ensures.value c.in-Some.ensures.replaces in
-    on-ok c.edit.result (λ text. text ∙ is) c.edit.ensures.text
+returns-clause-text g c = grind (arith, on-ok)
 
 pub returns-clause-refused : goal.returns-clause-refused
-returns-clause-refused g c =
-    let is = replaced c.self.inside.lines c.args.self.now.text c.args.new.now c.range-with.result.now c.len_bytes.result c.in-Some.front c.in-Some.end (ap (λ (s : Held g.row.C.Denot). s.text) c.self.view_is) c.len_bytes.ensures c.range-with.ensures.value c.in-Some.ensures.replaces in
-    λ refused. subst (λ (t : List ℕ). numbered_in (file_of c.args.self.now.root) (tree (g.C.Classes.classes c.args.self.now.classes) (chars t)) ≡ None) is (c.edit.ensures.refused refused)
+returns-clause-refused g c = grind arith

@@ -1,28 +1,17 @@
-use Rattle.std.proofs.Common.{◌≡◌, ◌-◌, ℕ, nat_le, count_by, get_or, length, sym, ap, subst, ◌∙◌, arith}
-use Rattle.std.specs.List.Sorted.{IsNonDecreasingBy}
-use Rattle.std.specs.Str.{IsCharBoundary}
-use Rattle.typst_positions.specs.Columns.{column_of}
-use Rattle.typst_positions.specs.Positions.{byte_at, line_of}
-use Rattle.typst_positions.specs.Starts.{line_at, line_starts}
-use Rattle.typst_positions.specs.declared.positions.Position.{Position}
+use Rattle.typst_positions.proofs.Cited.{common_steps, ◌≡◌, ◌-◌, ℕ, nat_le, count_by, get_or, sym, ap, subst, ◌∙◌, arith, IsCharBoundary, column_of, byte_at, line_of, line_at, line_starts, Position}
 use Rattle.typst_positions.proofs.Holding.{starts-ordered}
 use Rattle.typst_positions.proofs.Places.{got, held, place-back, position-is, some-below, start-boundary}
 use Rattle.typst_positions.proofs.positions.Positions.to_position.Goals as goal
 
 pub count_to-requires : goal.count_to-requires
-count_to-requires c =
-    let table : c.as_slice.result.now ≡ line_starts c.args.text.now = c.as_slice.ensures.value ∙ c.self.view_is ∙ c.requires in
-    subst (IsNonDecreasingBy (λ (x : ℕ). x)) (sym table) (starts-ordered c.args.text.now)
+count_to-requires c = grind (arith, starts-ordered)
 
 pub index-start-requires : goal.index-start-requires
 index-start-requires c =
     let text = c.args.text.now in
     let byte = c.args.byte in
     let h = held text byte in
-    let all : c.self.inside.starts.items ≡ line_starts text = c.self.view_is ∙ c.requires in
-    let table : c.as_slice.result.now ≡ line_starts text = c.as_slice.ensures.value ∙ all in
-    let number : c.saturating_sub-number.result ≡ line_of text byte = c.saturating_sub-number.ensures ∙ ap (λ n. n - 1) (c.count_to.ensures.value ∙ ap (count_by (λ (s : ℕ). nat_le s byte)) table) in
-    omega (arith, number, some-below (line_starts text) (line_of text byte) h.start h.at, ap length all)
+    grind (arith, common_steps, some-below)
 
 pub line-requires : goal.line-requires
 line-requires c =
@@ -54,15 +43,7 @@ returns-clause-value c =
     let text = c.args.text.now in
     let byte = c.args.byte in
     let h = held text byte in
-    let all : c.self.inside.starts.items ≡ line_starts text = c.self.view_is ∙ c.requires in
-    let table : c.as_slice.result.now ≡ line_starts text = c.as_slice.ensures.value ∙ all in
-    let number : c.saturating_sub-number.result ≡ line_of text byte = c.saturating_sub-number.ensures ∙ ap (λ n. n - 1) (c.count_to.ensures.value ∙ ap (count_by (λ (s : ℕ). nat_le s byte)) table) in
-    let d = c.index-start.result.now in
-    let start : d ≡ h.start = c.index-start.ensures ∙ ap (λ xs. get_or xs c.saturating_sub-number.result d) all ∙ ap (λ n. get_or (line_starts text) n d) number ∙ got (line_starts text) (line_of text byte) h.start d h.at in
-    let column : c.column_of.result ≡ column_of c.args.encoding (line_at text h.start) (byte - h.start) =
-    c.column_of.ensures ∙ ap (λ l. column_of c.args.encoding l (byte - d)) c.line.ensures ∙ ap (λ s. column_of c.args.encoding (line_at text s) (byte - s)) start in
-    let value = position-is c.args.encoding text byte c.saturating_sub-number.result c.column_of.result h.start number h.at column in
-    value
+    grind (arith, common_steps, got, position-is)
 
 pub returns-clause-back : goal.returns-clause-back
 returns-clause-back c =

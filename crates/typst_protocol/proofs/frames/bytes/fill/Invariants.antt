@@ -1,5 +1,4 @@
-use Rattle.std.proofs.Common.{◌-◌, ◌≤◌, length, take}
-use Rattle.std.specs.Io.KnownBytes.{Consumes}
+use Rattle.typst_protocol.proofs.Cited.{◌-◌, ◌≤◌, length, take, Consumes}
 use Rattle.typst_protocol.proofs.frames.bytes.fill.Given as goal
 
 abbrev pub invariant-loop-at : goal.invariant-loop-at

@@ -1,6 +1,4 @@
-use Rattle.std.proofs.Common.{◌≡◌, None, take}
-use Rattle.std.specs.Io.KnownBytes.{Consumes}
-use Rattle.typst_protocol.specs.Frames.{before_crlf}
+use Rattle.typst_protocol.proofs.Cited.{◌≡◌, None, take, Consumes, before_crlf}
 use Rattle.typst_protocol.proofs.frames.bytes.read_line.Given as goal
 
 abbrev pub invariant-loop-at : goal.invariant-loop-at

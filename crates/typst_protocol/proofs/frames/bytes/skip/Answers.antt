@@ -1,6 +1,4 @@
-use Rattle.std.proofs.Common.{◌≤◌, ◌++◌, arith, rules, take, length-append, length-take-le}
-use Rattle.std.proofs.lemmas.Grind.{common_steps}
-use Rattle.std.proofs.KnownBytes.{Consumes-trans}
+use Rattle.typst_protocol.proofs.Cited.{◌≤◌, ◌++◌, arith, rules, take, length-append, length-take-le, common_steps, Consumes-trans}
 use Rattle.typst_protocol.proofs.frames.bytes.skip.Goals as goal
 
 pub loop-left-preserved : goal.loop-left-preserved

@@ -1,5 +1,4 @@
-use Rattle.std.proofs.Common.{◌≡◌, ℕ, ◌+◌, List, length}
-use Rattle.std.specs.Io.KnownBytes.{Consumes}
+use Rattle.typst_protocol.proofs.Cited.{◌≡◌, ℕ, ◌+◌, List, length, Consumes}
 use Rattle.typst_protocol.proofs.frames.bytes.skip.Given as goal
 
 abbrev pub invariant-loop-left : goal.invariant-loop-left

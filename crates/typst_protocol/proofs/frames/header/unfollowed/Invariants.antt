@@ -1,6 +1,4 @@
-use Rattle.std.proofs.Common.{◌≡◌, length}
-use Rattle.std.specs.Prelude.{reverse}
-use Rattle.typst_protocol.specs.Header.{unled}
+use Rattle.typst_protocol.proofs.Cited.{◌≡◌, length, reverse, unled}
 use Rattle.typst_protocol.proofs.frames.header.unfollowed.Given as goal
 
 abbrev pub invariant-loop-rest : goal.invariant-loop-rest

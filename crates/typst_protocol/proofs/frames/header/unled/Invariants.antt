@@ -1,5 +1,4 @@
-use Rattle.std.proofs.Common.{◌≡◌, length}
-use Rattle.typst_protocol.specs.Header.{unled}
+use Rattle.typst_protocol.proofs.Cited.{◌≡◌, length, unled}
 use Rattle.typst_protocol.proofs.frames.header.unled.Given as goal
 
 abbrev pub invariant-loop-rest : goal.invariant-loop-rest

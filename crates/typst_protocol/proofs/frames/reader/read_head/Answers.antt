@@ -1,8 +1,4 @@
-use Rattle.std.proofs.Common.{◌≡◌, ℕ, suc, ◌+◌, ◌-◌, IfSome, Ok, Err, Result, sym, ap, subst, ◌∙◌, arith}
-use Rattle.std.proofs.lemmas.Result.{err_from_is_err_and}
-use Rattle.typst_protocol.specs.Stream.{ReadsHead, ReadsLine}
-use Rattle.typst_protocol.specs.declared.frames.reader.End.{End}
-use Rattle.typst_protocol.specs.declared.frames.reader.End.TheVariants.{Malformed}
+use Rattle.typst_protocol.proofs.Cited.{◌≡◌, ℕ, suc, ◌+◌, ◌-◌, IfSome, Ok, Err, Result, sym, ap, subst, ◌∙◌, arith, ReadsHead, ReadsLine, End, Malformed, err_from_is_err_and}
 use Rattle.typst_protocol.proofs.Heads.{GoesOn, goes-end, goes-err, goes-malformed, goes-on, goes-out, none-of, some-of}
 use Rattle.typst_protocol.proofs.frames.reader.read_head.Goals as goal
 

@@ -1,7 +1,5 @@
-use Rattle.std.proofs.Common.{sym, subst, arith, take}
-use Rattle.std.proofs.KnownBytes.{Appends-kept}
+use Rattle.typst_protocol.proofs.Cited.{sym, subst, arith, take, Appends-kept, Appends}
 use Rattle.std.proofs.lemmas.List.{length-drop, take_rest}
-use Rattle.std.specs.Io.KnownBytes.{Appends}
 use Rattle.typst_protocol.proofs.Writing.{Appends-piece}
 use Rattle.typst_protocol.proofs.frames.writer.write_bytes.Goals as goal
 use Rattle.typst_protocol.proofs.frames.writer.write_bytes.Goals.{in-Ok, in-Err}

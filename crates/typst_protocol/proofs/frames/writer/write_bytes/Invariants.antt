@@ -1,5 +1,4 @@
-use Rattle.std.proofs.Common.{◌≤◌, length, take}
-use Rattle.std.specs.Io.KnownBytes.{Appends}
+use Rattle.typst_protocol.proofs.Cited.{◌≤◌, length, take, Appends}
 use Rattle.typst_protocol.proofs.frames.writer.write_bytes.Given as goal
 
 abbrev pub invariant-loop-turn : goal.invariant-loop-turn

@@ -1,6 +1,4 @@
-use Rattle.std.proofs.Common.{◌++◌, length}
-use Rattle.std.proofs.KnownBytes.{Appends-kept, Appends-trans}
-use Rattle.std.specs.Prelude.{codes, decimal}
+use Rattle.typst_protocol.proofs.Cited.{◌++◌, length, Appends-kept, Appends-trans, codes, decimal}
 use Rattle.typst_protocol.proofs.Writing.{begins-after, begins-front, begins-whole, on-ok}
 use Rattle.typst_protocol.proofs.frames.writer.write_frame.Goals as goal
 

@@ -1,8 +1,6 @@
-use Rattle.std.proofs.Common.{codes}
-use Rattle.serde.specs.Event.{Then}
+use Rattle.typst_protocol.proofs.Cited.{codes, Then, Member, WritesPlace}
 use Rattle.typst_protocol.proofs.Events.{ends-map}
 use Rattle.typst_protocol.proofs.values.ExtentSerialize.serialize.Goals as goal
-use Rattle.typst_protocol.specs.Written.{Member, WritesPlace}
 
 pub returns : goal.returns
 returns g c =

@@ -1,9 +1,7 @@
-use Rattle.std.proofs.Common.{codes}
+use Rattle.typst_protocol.proofs.Cited.{codes, Sends, Then, text, unsigned, Member, WritesExtent}
 use Rattle.std.specs.String.{string_bytes}
-use Rattle.serde.specs.Event.{Sends, Then, text, unsigned}
 use Rattle.typst_protocol.proofs.Events.{ends-map}
 use Rattle.typst_protocol.proofs.values.ProblemSerialize.serialize.Goals as goal
-use Rattle.typst_protocol.specs.Written.{Member, WritesExtent}
 
 pub returns : goal.returns
 returns g c =

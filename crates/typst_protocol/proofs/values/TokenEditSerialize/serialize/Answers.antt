@@ -1,8 +1,6 @@
-use Rattle.std.proofs.Common.{codes}
-use Rattle.serde.specs.Event.{Sends, Then, unsigned}
+use Rattle.typst_protocol.proofs.Cited.{codes, Sends, Then, unsigned, Member, WritesNumbers}
 use Rattle.typst_protocol.proofs.Events.{ends-map}
 use Rattle.typst_protocol.proofs.values.TokenEditSerialize.serialize.Goals as goal
-use Rattle.typst_protocol.specs.Written.{Member, WritesNumbers}
 
 pub returns : goal.returns
 returns g c =

@@ -1,8 +1,5 @@
-use Rattle.std.proofs.Common.{rules, not, option_map, ap}
-use Rattle.std.proofs.lemmas.Fn.{filter_same}
+use Rattle.typst_server.proofs.Cited.{rules, not, option_map, ap, filter_same, is_named, known, Entry}
 use Rattle.typst_server.proofs.Held.{drop-left, none-left, others-left}
-use Rattle.typst_server.specs.Documents.{is_named, known}
-use Rattle.typst_server.specs.declared.documents.Entry.{Entry}
 use Rattle.typst_server.proofs.documents.Documents.close.Goals as goal
 
 pub returns-clause-closed : goal.returns-clause-closed

@@ -1,15 +1,9 @@
-use Rattle.std.proofs.Common.{refl, option_map, ap, inl, ◌∙◌}
-use Rattle.typst_protocol.specs.Addresses.{is_same}
+use Rattle.typst_server.proofs.Cited.{option_map, ap, ◌∙◌, arith, known, Entry, is_same, Lost}
 use Rattle.typst_server.proofs.Held.{others-in, same-self, sent-in, unknown-in}
-use Rattle.typst_server.specs.Documents.{known}
-use Rattle.typst_server.specs.declared.documents.Entry.{Entry}
-use Rattle.typst_server.specs.declared.documents.Held.TheVariants.{Lost}
 use Rattle.typst_server.proofs.documents.Documents.enter.Goals as goal
 
 pub returns-clause-unknown : goal.returns-clause-unknown
-returns-clause-unknown c =
-    let new : Entry = record { uri = c.in_ok-name.name; held = Lost } in
-    λ h. rw c.in_ok-push.ensures.items (unknown-in c.args.uri.now c.args.self.now.entries.items new refl h)
+returns-clause-unknown c = grind (arith, unknown-in)
 
 pub returns-clause-others : goal.returns-clause-others
 returns-clause-others c =
@@ -22,6 +16,4 @@ returns-clause-others c =
     )
 
 pub returns-clause-sent : goal.returns-clause-sent
-returns-clause-sent c =
-    let new : Entry = record { uri = c.in_ok-name.name; held = Lost } in
-    λ other. inl (rw c.in_ok-push.ensures.items (sent-in other c.args.self.now.entries.items new refl))
+returns-clause-sent c = grind (arith, sent-in)

@@ -1,7 +1,6 @@
 use Rattle.typst_server.proofs.Texts.{Made}
 use Rattle.typst_server.proofs.documents.Documents.make_all.Given as goal
-use Rattle.typst_server.specs.Documents.{KeepsOthers, found}
-use Rattle.typst_server.specs.Sent.{KeepsSent}
+use Rattle.typst_server.proofs.Cited.{KeepsOthers, found, KeepsSent}
 
 abbrev pub invariant-loop-value : goal.invariant-loop-value
 invariant-loop-value l =

@@ -1,6 +1,5 @@
-use Rattle.std.proofs.Common.{None}
+use Rattle.typst_server.proofs.Cited.{None, found}
 use Rattle.typst_server.proofs.Held.{knows-unknown}
-use Rattle.typst_server.specs.Documents.{found}
 use Rattle.typst_server.proofs.documents.Documents.open.Goals as goal
 
 pub returns-then-is_ok-clause-text : goal.returns-then-is_ok-clause-text

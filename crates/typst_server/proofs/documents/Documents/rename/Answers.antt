@@ -1,7 +1,6 @@
-use Rattle.std.proofs.Common.{refl}
+use Rattle.typst_server.proofs.Cited.{refl, Entry}
 use Rattle.std.specs.Vec as Vec
 use Rattle.typst_server.proofs.Held.{known-set, renames-at, sent-kept}
-use Rattle.typst_server.specs.declared.documents.Entry.{Entry}
 use Rattle.typst_server.proofs.documents.Documents.rename.Goals as goal
 
 pub returns-clause-known : goal.returns-clause-known

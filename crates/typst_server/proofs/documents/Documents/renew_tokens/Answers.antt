@@ -1,5 +1,4 @@
-use Rattle.std.proofs.Common.{ap, ◌∙◌}
-use Rattle.std.specs.Vec.{with_item}
+use Rattle.typst_server.proofs.Cited.{ap, ◌∙◌, with_item}
 use Rattle.typst_server.proofs.Held.{set-itself}
 use Rattle.typst_server.proofs.documents.Documents.renew_tokens.Goals as goal
 

@@ -1,6 +1,4 @@
-use Rattle.std.proofs.Common.{◌≡◌, Some, None, refl, sym, subst}
-use Rattle.serde_json.specs.View.{view}
-use Rattle.typst_protocol.specs.Messages.{IsUnread, babbles, meant, said}
+use Rattle.typst_server.proofs.Cited.{◌≡◌, Some, None, refl, sym, subst, view, IsUnread, babbles, meant, said}
 use Rattle.typst_server.proofs.Answered.{meant_left, unnamed_left}
 use Rattle.typst_server.proofs.Held.{none_lost, warned_none}
 use Rattle.typst_server.proofs.Keeping.{drops_none}

@@ -1,12 +1,7 @@
-use Rattle.std.proofs.Common.{String, Global, subst, sym}
-use Rattle.std.specs.Global.{Vec}
-use Rattle.std.specs.Prelude.{All}
-use Rattle.std.specs.Result.{is_ok}
-use Rattle.std.specs.String.{string_bytes}
+use Rattle.typst_server.proofs.Cited.{String, Global, subst, sym, Vec, All, is_ok, string_bytes, Empties}
 use Rattle.typst_server.proofs.Taking.{all_pushed}
 use Rattle.typst_server.proofs.server.Server.emptied.Goals as goal
 use Rattle.typst_server.proofs.server.Server.emptied.Goals.{then-is_known+in-Ok+in-Err-1, then-is_known+in-Ok+in-Ok-1, then-is_known+in_default, else-is_known}
-use Rattle.typst_server.specs.Published.{Empties}
 
 pub loop-entry-preserved : goal.loop-entry-preserved
 loop-entry-preserved c =

@@ -1,13 +1,7 @@
-use Rattle.std.proofs.Common.{String, Global, subst, sym}
-use Rattle.std.proofs.lemmas.List.Elements.{All-nil}
-use Rattle.std.specs.Global.{Vec}
-use Rattle.std.specs.Prelude.{All}
-use Rattle.std.specs.Result.{is_ok}
-use Rattle.std.specs.String.{string_bytes}
+use Rattle.typst_server.proofs.Cited.{String, Global, subst, sym, All-nil, Vec, All, is_ok, string_bytes, AreNone, Publishes}
 use Rattle.typst_server.proofs.Taking.{all_pushed}
 use Rattle.typst_server.proofs.server.Server.lost.Goals as goal
 use Rattle.typst_server.proofs.server.Server.lost.Goals.{in-Ok+in-Err-1, in-Ok+in-Ok-1, in_default}
-use Rattle.typst_server.specs.Published.{AreNone, Publishes}
 
 pub returns-clause-published : goal.returns-clause-published
 returns-clause-published c =

@@ -1,12 +1,6 @@
-use Rattle.std.proofs.Common.{◌≡◌, ◌-◌, ◌==◌, ◌∷◌, [], ◌++◌, ap, sym, ◌∙◌, if◌then◌else◌}
-use Rattle.std.proofs.lemmas.Bool.{eq-eqb, ne_eqb}
-use Rattle.typst_positions.specs.Positions.{position_of}
-use Rattle.typst_positions.specs.declared.positions.Position.{Position}
+use Rattle.typst_server.proofs.Cited.{common_steps, ◌≡◌, ◌-◌, ◌==◌, ap, sym, ◌∙◌, if◌then◌else◌, arith, eq-eqb, ne_eqb, position_of, Position, Opened, end_of, clipped, shown}
 use Rattle.typst_server.proofs.tokens.Encoder.add.Goals as goal
 use Rattle.typst_server.proofs.tokens.Encoder.add.Goals.{then-line-self, else-line-self}
-use Rattle.typst_document.specs.Document.{Opened}
-use Rattle.typst_styles.specs.Tokens.{end_of}
-use Rattle.typst_server.specs.Numbers.{clipped, shown}
 
 pub returns-clause-added : goal.returns-clause-added
 returns-clause-added c =
@@ -32,14 +26,4 @@ returns-clause-added c =
     let third : c.number-3.result ≡ clipped s.size = c.number-3.ensures ∙ ap clipped (c.saturating_sub-3.ensures ∙ size) in
     let kind : c.number_of.result ≡ s.kind = c.number_of.ensures in
     let modifiers : c.modifiers_of.result ≡ s.modifiers = c.modifiers_of.ensures in
-    record {
-      numbers =
-          c.in_ok-extend_from_slice.ensures.items
-          ∙ ap (λ n. old.numbers.items ++ n ∷ c.number-2.result ∷ c.number-3.result ∷ c.number_of.result ∷ c.modifiers_of.result ∷ []) first
-          ∙ ap (λ n. old.numbers.items ++ clipped (s.line - old.line) ∷ n ∷ c.number-3.result ∷ c.number_of.result ∷ c.modifiers_of.result ∷ []) second
-          ∙ ap (λ n. old.numbers.items ++ clipped (s.line - old.line) ∷ clipped (s.column - (if s.line == old.line then old.column else 0)) ∷ n ∷ c.number_of.result ∷ c.modifiers_of.result ∷ []) third
-          ∙ ap (λ n. old.numbers.items ++ clipped (s.line - old.line) ∷ clipped (s.column - (if s.line == old.line then old.column else 0)) ∷ clipped s.size ∷ n ∷ c.modifiers_of.result ∷ []) kind
-          ∙ ap (λ n. old.numbers.items ++ clipped (s.line - old.line) ∷ clipped (s.column - (if s.line == old.line then old.column else 0)) ∷ clipped s.size ∷ s.kind ∷ n ∷ []) modifiers;
-      line = line;
-      column = column;
-    }
+    grind (arith, common_steps)

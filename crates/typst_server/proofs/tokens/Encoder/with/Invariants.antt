@@ -1,6 +1,5 @@
-use Rattle.std.proofs.Common.{◌≡◌, ◌-◌, ◌++◌, drop, take}
+use Rattle.typst_server.proofs.Cited.{◌≡◌, ◌-◌, ◌++◌, drop, take, encoded, shown_each}
 use Rattle.typst_server.proofs.tokens.Encoder.with.Given as goal
-use Rattle.typst_server.specs.Numbers.{encoded, shown_each}
 
 abbrev pub invariant-loop-index : goal.invariant-loop-index
 invariant-loop-index l =

@@ -1,6 +1,4 @@
-use Rattle.std.proofs.Common.{◌≡◌, ◌≤◌}
-use Rattle.typst_styles.specs.Seeking.{IsRow, left_of, steps_left}
-use Rattle.typst_styles.specs.Tokens.{touching}
+use Rattle.typst_styles.proofs.Cited.{◌≡◌, ◌≤◌, IsRow, left_of, steps_left, touching}
 use Rattle.typst_styles.proofs.seeking.Row.seek.Given as goal
 
 abbrev pub invariant-nodes : goal.invariant-nodes

@@ -1,6 +1,4 @@
-use Rattle.std.proofs.Common.{◌∙◌, ap}
-use Rattle.std.proofs.lemmas.Str.{IsUtf8-had}
-use Rattle.typst_tokens.specs.Sight.{Sight, text_of}
+use Rattle.typst_tokens.proofs.Cited.{◌∙◌, ap, IsUtf8-had, Sight, text_of}
 use Rattle.typst_tokens.proofs.Sights.{text-is}
 use Rattle.typst_tokens.proofs.cursor.Cursor.ahead.Goals as goal
 

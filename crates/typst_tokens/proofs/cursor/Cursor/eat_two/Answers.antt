@@ -1,7 +1,4 @@
-use Rattle.std.proofs.Common.{◌∙◌, ap, sym, subst}
-use Rattle.typst_lines.specs.Scanner.{place}
-use Rattle.typst_tokens.specs.Cursor.{sight_of}
-use Rattle.typst_tokens.specs.Sight.{Covers, went}
+use Rattle.typst_tokens.proofs.Cited.{◌∙◌, ap, sym, subst, place, sight_of, Covers, went}
 use Rattle.typst_tokens.proofs.Sights.{ate, covers-went, two-moved, two-scout}
 use Rattle.typst_tokens.proofs.Lines.{line-kept}
 use Rattle.typst_tokens.proofs.cursor.Cursor.eat_two.Goals as goal

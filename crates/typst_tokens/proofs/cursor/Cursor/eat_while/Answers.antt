@@ -1,8 +1,4 @@
-use Rattle.std.proofs.Common.{◌∙◌, ap, sym, subst}
-use Rattle.std.specs.List.{prefix_len}
-use Rattle.typst_lines.specs.Scanner.{place}
-use Rattle.typst_tokens.specs.Cursor.{sight_of}
-use Rattle.typst_tokens.specs.Sight.{Covers, went_past}
+use Rattle.typst_tokens.proofs.Cited.{◌∙◌, ap, sym, subst, prefix_len, place, sight_of, Covers, went_past}
 use Rattle.typst_tokens.proofs.Sights.{covers-past, ran}
 use Rattle.typst_tokens.proofs.Lines.{line-kept}
 use Rattle.typst_tokens.proofs.cursor.Cursor.eat_while.Goals as goal

@@ -1,7 +1,4 @@
-use Rattle.std.proofs.Common.{◌∙◌, ap, sym, subst, length}
-use Rattle.typst_lines.specs.Scanner.{place}
-use Rattle.typst_tokens.specs.Cursor.{sight_of}
-use Rattle.typst_tokens.specs.Sight.{Sight, Covers, saw_word, went}
+use Rattle.typst_tokens.proofs.Cited.{◌∙◌, ap, sym, subst, length, place, sight_of, Sight, Covers, saw_word, went}
 use Rattle.typst_tokens.proofs.Sights.{covers-went}
 use Rattle.typst_tokens.proofs.Words.{covers-word, word-eaten}
 use Rattle.typst_tokens.proofs.Lines.{line-kept}

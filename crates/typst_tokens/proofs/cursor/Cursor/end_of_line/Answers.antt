@@ -1,8 +1,4 @@
-use Rattle.std.proofs.Common.{◌∙◌, ap, sym, arith}
-use Rattle.std.proofs.lemmas.Str.{IsUtf8-had}
-use Rattle.typst_lines.specs.Classes.{in_line}
-use Rattle.typst_lines.specs.Place.{past}
-use Rattle.typst_tokens.specs.Sight.{Sight, text_of}
+use Rattle.typst_tokens.proofs.Cited.{◌∙◌, ap, sym, arith, IsUtf8-had, in_line, past, Sight}
 use Rattle.typst_tokens.proofs.Lines.{same-end}
 use Rattle.typst_tokens.proofs.Sights.{text-is}
 use Rattle.typst_tokens.proofs.cursor.Cursor.end_of_line.Goals as goal
@@ -17,11 +13,7 @@ returns-then-at-self-clause-place c =
     ∙ ap (λ (v : Sight). past in_line v.place) c.self.view_is
 
 pub returns-then-at-self-clause-text : goal.returns-then-at-self-clause-text
-returns-then-at-self-clause-text c =
-    let s = c.self.inside.s in
-    c.jump.ensures.same_text ∙ text-is s.text.now s.cursor (IsUtf8-had _ s.utf8) s.boundary ∙ ap (λ (v : Sight). text_of v.place) c.self.view_is
+returns-then-at-self-clause-text c = grind (arith, text-is)
 
 pub returns-clause-text : goal.returns-clause-text
-returns-clause-text c =
-    let s = c.self.inside.s in
-    c.eat_while.ensures.same_text ∙ text-is s.text.now s.cursor (IsUtf8-had _ s.utf8) s.boundary ∙ ap (λ (v : Sight). text_of v.place) c.self.view_is
+returns-clause-text c = grind (arith, text-is)

@@ -1,6 +1,4 @@
-use Rattle.std.proofs.Common.{◌∙◌, ap, rules}
-use Rattle.std.proofs.lemmas.Str.{IsUtf8-had}
-use Rattle.typst_tokens.specs.Sight.{Sight, text_of}
+use Rattle.typst_tokens.proofs.Cited.{◌∙◌, ap, IsUtf8-had, Sight, text_of}
 use Rattle.typst_tokens.proofs.Sights.{text-is}
 use Rattle.typst_tokens.proofs.cursor.Cursor.finish.Goals as goal
 
@@ -8,6 +6,3 @@ pub returns-clause-text : goal.returns-clause-text
 returns-clause-text c =
     let s = c.self.inside.s in
     text-is s.text.now s.cursor (IsUtf8-had _ s.utf8) s.boundary ∙ ap (λ (v : Sight). text_of v.place) c.self.view_is
-
-pub returns-clause-hull : goal.returns-clause-hull
-returns-clause-hull c = search rules

@@ -1,8 +1,4 @@
-use Rattle.std.proofs.Common.{◌∙◌, ap, sym, subst}
-use Rattle.typst_lines.specs.Scanner.{place}
-use Rattle.typst_tokens.specs.Cursor.{sight_of}
-use Rattle.typst_tokens.specs.Pairs.{either, pairs_len, went_past_pairs}
-use Rattle.typst_tokens.specs.Sight.{Covers}
+use Rattle.typst_tokens.proofs.Cited.{◌∙◌, ap, sym, subst, place, sight_of, either, pairs_len, went_past_pairs, Covers}
 use Rattle.typst_tokens.proofs.PairRuns.{covers-pairs}
 use Rattle.typst_tokens.proofs.Sights.{ran}
 use Rattle.typst_tokens.proofs.Lines.{line-kept}

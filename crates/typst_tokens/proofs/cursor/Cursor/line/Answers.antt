@@ -1,10 +1,6 @@
-use Rattle.std.proofs.Common.{◌∙◌, ap}
-use Rattle.std.proofs.lemmas.Str.{IsUtf8-had}
-use Rattle.typst_tokens.specs.Sight.{Sight, text_of}
+use Rattle.std.proofs.Common.{arith}
 use Rattle.typst_tokens.proofs.Sights.{text-is}
 use Rattle.typst_tokens.proofs.cursor.Cursor.line.Goals as goal
 
 pub returns : goal.returns
-returns c =
-    let s = c.self.inside.s in
-    c.string.ensures ∙ text-is s.text.now s.cursor (IsUtf8-had _ s.utf8) s.boundary ∙ ap (λ (v : Sight). text_of v.place) c.self.view_is
+returns c = grind (arith, text-is)

@@ -1,6 +1,4 @@
-use Rattle.std.proofs.Common.{◌∙◌, ap}
-use Rattle.typst_lines.specs.Scanner.{place}
-use Rattle.typst_tokens.specs.Sight.{saw}
+use Rattle.typst_tokens.proofs.Cited.{◌∙◌, ap, place, saw}
 use Rattle.typst_tokens.proofs.Sights.{peeked}
 use Rattle.typst_tokens.proofs.cursor.Cursor.peek.Goals as goal
 

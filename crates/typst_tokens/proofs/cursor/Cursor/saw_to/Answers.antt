@@ -1,12 +1,6 @@
-use Rattle.std.proofs.Common.{suc, ◌∙◌, ap, sym, arith}
-use Rattle.typst_lines.specs.Place.{moved}
-use Rattle.typst_lines.specs.Scanner.{place}
-use Rattle.typst_tokens.specs.Sight.{Sight, saw}
+use Rattle.typst_tokens.proofs.Cited.{suc, ◌∙◌, ap, sym, moved, place, Sight, saw}
 use Rattle.typst_tokens.proofs.Ahead.{seen-to}
 use Rattle.typst_tokens.proofs.cursor.Cursor.saw_to.Goals as goal
-
-pub invariant_of-self : goal.invariant_of-self
-invariant_of-self c = let h = c.self.invariant.looks in record { looks = record { reach = omega (arith, h.reach, c.max-self-inside.ensures); least = h.least }; line = c.self.invariant.line }
 
 pub returns-clause-sight : goal.returns-clause-sight
 returns-clause-sight c = λ n h.

@@ -1,9 +1,4 @@
-use Rattle.std.proofs.Common.{◌∙◌, ap, sym, subst, length, take}
-use Rattle.std.proofs.lemmas.Str.{IsUtf8-had}
-use Rattle.std.specs.Str.{chars}
-use Rattle.typst_lines.specs.Scanner.{place}
-use Rattle.typst_tokens.specs.Cursor.{sight_of}
-use Rattle.typst_tokens.specs.Sight.{Sight, Covers, went}
+use Rattle.typst_tokens.proofs.Cited.{◌∙◌, ap, sym, subst, length, take, IsUtf8-had, chars, place, sight_of, Sight, Covers, went}
 use Rattle.typst_tokens.proofs.Ahead.{bytes-of, skipped}
 use Rattle.typst_tokens.proofs.Sights.{covers-went, offset-is}
 use Rattle.typst_tokens.proofs.Lines.{line-kept}

@@ -1,14 +1,6 @@
-use Rattle.std.proofs.Common.{◌∙◌, ap}
-use Rattle.typst_lines.specs.Scanner.{place}
-use Rattle.typst_tokens.specs.Sight.{Sight, saw_back}
+use Rattle.typst_tokens.proofs.Cited.{◌∙◌, ap, place, saw_back}
 use Rattle.typst_tokens.proofs.Sights.{glanced, third-start-is}
 use Rattle.typst_tokens.proofs.cursor.Cursor.third_last.Goals as goal
-
-pub returns-clause-third_last : goal.returns-clause-third_last
-returns-clause-third_last c =
-    let z = place c.self.inside.s in
-    let at = third-start-is z (place c.uneat.new.self) (place c.uneat-2.new.self) (place c.uneat-c.new.self) c.uneat-c.result c.start_of.result c.start_of.ensures c.uneat.ensures.moved c.uneat-2.ensures.moved c.uneat-c.ensures.moved c.uneat-c.ensures.last in
-    rw (ap (λ (v : Sight). v.place) c.self.view_is) at (at.0)
 
 pub returns-clause-sight : goal.returns-clause-sight
 returns-clause-sight c =

@@ -1,7 +1,4 @@
-use Rattle.std.proofs.Common.{◌≡◌, ℕ, ◌-◌, None, Some, ap, sym, ◌∙◌, arith, refl}
-use Rattle.typst_tree.specs.Tree.{nodes, places}
-use Rattle.typst_tree.specs.Walks.{last_leaf}
-use Rattle.typst_tree.specs.Found.{IsBelow}
+use Rattle.typst_tree.proofs.Cited.{◌≡◌, ℕ, ◌-◌, None, Some, ap, sym, ◌∙◌, arith, refl, nodes, places, last_leaf, IsBelow}
 use Rattle.typst_tree.proofs.FoundBelow.{under}
 use Rattle.typst_tree.proofs.LastLeaf.{Back, last_none, back, last_alone}
 use Rattle.typst_tree.proofs.back.Found.+goes_back.Goals as goal
@@ -49,9 +46,6 @@ returns-then-goes_back-clause-found t c = λ _.
     let found : last_leaf c.args.before (c.loop-index.end - c.descendants-end.result) (places c.index-row-index.result) ≡ Some c.goes_back.new.self.number = rw (sym c.itself.ensures.node, sym c.itself.ensures.number) (c.goes_back.ensures.found c.if-goes_back.true) in
     c.loop-index.invariant.last ∙ (w.last ∙ rw found (ap (λ k. Some k) (sym c.below.ensures.number)))
 
-pub returns-then-goes_back-clause-below : goal.returns-then-goes_back-clause-below
-returns-then-goes_back-clause-below t c = grind arith
-
 pub loop-index-preserved : goal.loop-index-preserved
 loop-index-preserved t c =
     let w = here t (goal.at.loop-index-preserved t c).After-descendants-end in
@@ -64,9 +58,6 @@ loop-index-preserved t c =
       counted = omega (arith, w.counted, i.counted);
       smaller = omega (arith, w.counted, i.smaller);
     }
-
-pub returns-clause-found : goal.returns-clause-found
-returns-clause-found t c = grind (arith, last_alone)
 
 pub returns-clause-none : goal.returns-clause-none
 returns-clause-none t c = grind (arith, last_alone)

@@ -1,6 +1,4 @@
-use Rattle.std.proofs.Common.{◌≡◌, ◌+◌, ◌-◌, ◌^◌, ◌<◌, ◌≤◌, take, length, ◌∷◌}
-use Rattle.typst_tree.specs.Tree.{forest, count, nodes, places, preorder}
-use Rattle.typst_tree.specs.Walks.{last_leaf}
+use Rattle.typst_tree.proofs.Cited.{◌≡◌, ◌+◌, ◌-◌, ◌^◌, ◌<◌, ◌≤◌, take, length, ◌∷◌, forest, count, nodes, places, preorder, last_leaf}
 use Rattle.typst_tree.proofs.back.Found.+goes_back.Given as goal
 
 abbrev pub decreases-goes_back : goal.decreases-goes_back

@@ -1,11 +1,7 @@
-use Rattle.std.proofs.lemmas.Grind.{common_steps}
-use Rattle.std.proofs.Common.{◌≡◌, ◌+◌, ◌-◌, min, Some, ap, sym, ◌∙◌, arith}
-use Rattle.typst_tree.specs.Tree.{nodes}
-use Rattle.typst_tree.specs.Follows.{in_order_of}
-use Rattle.typst_tree.specs.Found.{IsBelow, last_of}
+use Rattle.typst_tree.proofs.Cited.{common_steps, ◌≡◌, ◌+◌, ◌-◌, min, Some, ap, sym, ◌∙◌, arith, nodes, in_order_of, IsBelow, last_of}
 use Rattle.typst_tree.proofs.FoundBelow.{inside, under}
 use Rattle.typst_tree.proofs.LastLeaf.{back, last_none, last_alone}
-use Rattle.typst_tree.proofs.LastFrom.{finds_same, last_end, last_first, last_heavy, last_in, last_lift, last_past, looks_all}
+use Rattle.typst_tree.proofs.LastFrom.{finds_same, last_end, last_first, last_heavy, last_in, last_lift, last_past}
 use Rattle.typst_tree.proofs.back.Found.+last_leaf.Goals as goal
 
 pub last_leaf-loop-found-init : goal.last_leaf-loop-found-init
@@ -13,11 +9,8 @@ last_leaf-loop-found-init t c = grind (arith, last_end)
 
 pub last_leaf-look_back-requires : goal.last_leaf-look_back-requires
 last_leaf-look_back-requires t c =
-    let o = c.args.self in
-    let f = c.loop-found.way in
-    let i = c.loop-found.invariant in
-    let n = inside o.number 0 o.node.now f.number f.begins f.node.now i.below.within in
-    (omega (arith, c.decreases, i.size), (omega (arith, n.to, c.requires.counted), i.begun))
+    let n = inside c.args.self.number 0 c.args.self.node.now c.loop-found.way.number c.loop-found.way.begins c.loop-found.way.node.now c.loop-found.invariant.below.within in
+    (omega (arith, c.decreases, c.loop-found.invariant.size), (omega (arith, n.to, c.requires.counted), c.loop-found.invariant.begun))
 
 pub last_leaf-returns-in-Leaf : goal.last_leaf-returns-in-Leaf
 last_leaf-returns-in-Leaf t c =
@@ -28,10 +21,7 @@ last_leaf-returns-in-Leaf t c =
 
 pub last_leaf-last_before-requires : goal.last_leaf-last_before-requires
 last_leaf-last_before-requires t c =
-    let o = c.args.self in
-    let f = c.loop-found.way in
-    let i = c.loop-found.invariant in
-    let n = inside o.number 0 o.node.now f.number f.begins f.node.now i.below.within in
+    let n = inside c.args.self.number 0 c.args.self.node.now c.loop-found.way.number c.loop-found.way.begins c.loop-found.way.node.now c.loop-found.invariant.below.within in
     (omega (arith, c.decreases), (c.requires.counted, (n.from, omega (arith, n.to))))
 
 pub last_leaf-returns-in-Nothing : goal.last_leaf-returns-in-Nothing
@@ -41,14 +31,13 @@ pub last_leaf-loop-found-preserved : goal.last_leaf-loop-found-preserved
 last_leaf-loop-found-preserved t c =
     let o = c.args.self in
     let f = c.loop-found.way in
-    let k = c.in-Heavy.kid in
     let h = c.in-Heavy.ensures in
     let i = c.loop-found.invariant in
     let a = c.with-way.ensures in
     let in_all = inside o.number 0 o.node.now f.number f.begins f.node.now i.below.within in
-    let n = inside f.number 0 f.node.now k.number k.begins k.node.now h.1.within in
-    let many : c.descendants-in-Heavy.result ≡ nodes k.node.now = omega (arith, c.descendants-in-Heavy.ensures, n.to, in_all.to, c.requires.counted) in
-    let until : min c.loop-found.until (k.number + nodes k.node.now) ≡ c.min-until-in-Heavy.result = omega (arith, c.min-until-in-Heavy.ensures, many) in
+    let n = inside f.number 0 f.node.now c.in-Heavy.kid.number c.in-Heavy.kid.begins c.in-Heavy.kid.node.now h.1.within in
+    let many : c.descendants-in-Heavy.result ≡ nodes c.in-Heavy.kid.node.now = omega (arith, c.descendants-in-Heavy.ensures, n.to, in_all.to, c.requires.counted) in
+    let until : min c.loop-found.until (c.in-Heavy.kid.number + nodes c.in-Heavy.kid.node.now) ≡ c.min-until-in-Heavy.result = omega (arith, c.min-until-in-Heavy.ensures, many) in
     record {
       below = a.below o.node.now o.number _ i.below;
       begun = omega (arith, a.number, h.2, until);
@@ -59,19 +48,14 @@ last_leaf-loop-found-preserved t c =
 
 pub last_leaf-overflow_add-kid : goal.last_leaf-overflow_add-kid
 last_leaf-overflow_add-kid t c =
-    let o = c.args.self in
-    let f = c.loop-found.way in
-    let k = c.in-Heavy.kid in
-    let in_all = inside o.number 0 o.node.now f.number f.begins f.node.now c.loop-found.invariant.below.within in
-    let n = inside f.number 0 f.node.now k.number k.begins k.node.now c.in-Heavy.ensures.1.within in
+    let in_all = inside c.args.self.number 0 c.args.self.node.now c.loop-found.way.number c.loop-found.way.begins c.loop-found.way.node.now c.loop-found.invariant.below.within in
+    let n = inside c.loop-found.way.number 0 c.loop-found.way.node.now c.in-Heavy.kid.number c.in-Heavy.kid.begins c.in-Heavy.kid.node.now c.in-Heavy.ensures.1.within in
     omega (arith, c.descendants-in-Heavy.ensures, n.to, in_all.to, c.requires.counted)
 
 pub last_before-last_before-requires : goal.last_before-last_before-requires
 last_before-last_before-requires t c =
-    let o = c.args.self in
-    let b = c.towards-below.result in
     let e = c.towards-below.ensures in
-    let n = inside o.number 0 o.node.now b.number b.begins b.node.now e.below.within in
+    let n = inside c.args.self.number 0 c.args.self.node.now c.towards-below.result.number c.towards-below.result.begins c.towards-below.result.node.now e.below.within in
     (omega (arith, c.decreases, n.from, n.to, c.if-below-self.false), (omega (arith, n.to, c.requires.counted), (omega (arith, e.from), omega (arith, e.to))))
 
 pub last_before-returns-in-Some : goal.last_before-returns-in-Some
@@ -86,12 +70,6 @@ last_before-loop-left-preserved t c = grind (arith, last_past)
 
 pub last_before-returns-then-until-self-2 : goal.last_before-returns-then-until-self-2
 last_before-returns-then-until-self-2 t c = grind (arith, last_first)
-
-pub last_before-returns-in-Leaf : goal.last_before-returns-in-Leaf
-last_before-returns-in-Leaf t c = grind (arith, finds_same)
-
-pub last_before-returns : goal.last_before-returns
-last_before-returns t c = grind (arith, looks_all)
 
 pub look_back-overflow_sub-end : goal.look_back-overflow_sub-end
 look_back-overflow_sub-end t c =
@@ -152,9 +130,6 @@ look_back-loop-index-preserved t c =
     let i = c.loop-index.invariant in
     let w = back c.args.before o.number o.node.now c.children-row.result.now c.loop-index.index c.loop-index.end _ _ c.loop-index-test.true i.bounded c.index-row-index.is i.end_is c.descendants-end.ensures i.counted in
     grind (arith, common_steps)
-
-pub look_back-returns-then-is_leaf : goal.look_back-returns-then-is_leaf
-look_back-returns-then-is_leaf t c = grind (arith, last_alone)
 
 pub look_back-returns : goal.look_back-returns
 look_back-returns t c = grind (arith, last_alone)

@@ -1,7 +1,4 @@
-use Rattle.std.proofs.Common.{◌≡◌, ◌+◌, ◌*◌, ◌^◌, ◌-◌, ◌<◌, ◌≤◌, ◌∷◌, take, length}
-use Rattle.typst_tree.specs.Tree.{forest, count, nodes, preorder}
-use Rattle.typst_tree.specs.Walks.{last_leaf}
-use Rattle.typst_tree.specs.Found.{IsUnder, last_of}
+use Rattle.typst_tree.proofs.Cited.{◌≡◌, ◌+◌, ◌*◌, ◌^◌, ◌-◌, ◌<◌, ◌≤◌, ◌∷◌, take, length, forest, count, nodes, preorder, last_leaf, IsUnder, last_of}
 use Rattle.typst_tree.proofs.back.Found.+last_leaf.Given as goal
 
 abbrev pub decreases-last_leaf : goal.decreases-last_leaf

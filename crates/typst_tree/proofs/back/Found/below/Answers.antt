@@ -1,6 +1,4 @@
-use Rattle.std.proofs.Common.{ap, arith, refl, sym, ◌∙◌}
-use Rattle.std.specs.Prelude.{nat_lt}
-use Rattle.typst_tree.specs.Rows.{long}
+use Rattle.typst_tree.proofs.Cited.{ap, arith, refl, sym, ◌∙◌, long, nat_lt}
 use Rattle.typst_tree.proofs.FoundBelow.{above, seen}
 use Rattle.typst_tree.proofs.Rows.{length_row}
 use Rattle.typst_tree.proofs.StepDown.{at_slice_get}
@@ -16,11 +14,8 @@ overflow_sub-self c =
 
 pub returns-clause-below : goal.returns-clause-below
 returns-clause-below c =
-    let o = c.args.over.now in
-    let n = c.args.number in
     let at = c.before_index-at.result in
-    let row = c.children-row.result.now in
-    let w = seen o n c.args.index at.number at.offset _ c.args.self row c.children-row.ensures c.requires.child c.before_index-at.ensures in
-    let is_long = ap (nat_lt long) (sym (length_row row _ c.children-row.ensures)) in
+    let w = seen _ _ c.args.index at.number at.offset _ c.args.self _ c.children-row.ensures c.requires.child c.before_index-at.ensures in
+    let is_long = ap (nat_lt long) (sym (length_row _ _ c.children-row.ensures)) in
     let order = c.of_child-way.ensures.in_order ∙ (c.open.ensures.in_order ∙ c.in_order.ensures) in
-    above o n w.kid at.number at.offset c.args.index c.open.result c.of_child-way.result _ c.args.self _ w.child w.within w.below is_long c.open.ensures.reach c.of_child-way.ensures.follows c.then.ensures.joins (c.then.ensures.in_order (sym order) ∙ order) refl refl c.saturating_add.ensures
+    above _ _ w.kid at.number at.offset c.args.index c.open.result c.of_child-way.result _ c.args.self _ w.child w.within w.below is_long c.open.ensures.reach c.of_child-way.ensures.follows c.then.ensures.joins (c.then.ensures.in_order (sym order) ∙ order) refl refl c.saturating_add.ensures

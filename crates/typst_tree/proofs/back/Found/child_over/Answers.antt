@@ -1,12 +1,8 @@
-use Rattle.std.proofs.lemmas.Grind.{common_steps}
-use Rattle.std.proofs.Common.{◌-◌, arith}
+use Rattle.typst_tree.proofs.Cited.{common_steps, ◌-◌, arith}
 use Rattle.typst_tree.proofs.FoundBelow.{under}
 use Rattle.typst_tree.proofs.LastLeaf.{back}
 use Rattle.typst_tree.proofs.LastFrom.{some_left}
 use Rattle.typst_tree.proofs.back.Found.child_over.Goals as goal
-
-pub overflow_sub-index : goal.overflow_sub-index
-overflow_sub-index c = grind (arith, some_left)
 
 pub overflow_sub-end : goal.overflow_sub-end
 overflow_sub-end c =
@@ -28,9 +24,3 @@ loop-end-preserved c =
     let i = c.loop-end.invariant in
     let w = back 0 o.number o.node.now c.children-row.result.now c.loop-end.index c.loop-end.end _ _ (some_left c.loop-end.index o.number c.loop-end.end c.args.wanted c.children-row.result.now i.end_is c.requires.from i.after) i.bounded c.index-row-index.is i.end_is c.descendants-end.ensures i.counted in
     grind (arith, common_steps)
-
-pub returns-then-end-wanted-clause-below : goal.returns-then-end-wanted-clause-below
-returns-then-end-wanted-clause-below c = grind arith
-
-pub returns-then-end-wanted-clause-to : goal.returns-then-end-wanted-clause-to
-returns-then-end-wanted-clause-to c = grind (arith, some_left)

@@ -1,5 +1,4 @@
-use Rattle.std.proofs.Common.{◌≡◌, ◌+◌, ◌^◌, ◌-◌, ◌<◌, ◌≤◌, take, length}
-use Rattle.typst_tree.specs.Tree.{forest, count}
+use Rattle.typst_tree.proofs.Cited.{◌≡◌, ◌+◌, ◌^◌, ◌-◌, ◌<◌, ◌≤◌, take, length, forest, count}
 use Rattle.typst_tree.proofs.back.Found.child_over.Given as goal
 
 abbrev pub decreases-loop-end : goal.decreases-loop-end

@@ -1,6 +1,4 @@
-use Rattle.std.proofs.Common.{◌+◌, ◌<◌, ◌≤◌}
-use Rattle.typst_tree.specs.Tree.{nodes}
-use Rattle.typst_tree.specs.Found.{IsUnder}
+use Rattle.typst_tree.proofs.Cited.{◌+◌, ◌<◌, ◌≤◌, nodes, IsUnder}
 use Rattle.typst_tree.proofs.back.Found.towards.Given as goal
 
 abbrev pub invariant-loop : goal.invariant-loop

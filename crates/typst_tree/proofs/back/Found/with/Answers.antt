@@ -1,9 +1,6 @@
-use Rattle.std.proofs.Common.{refl, arith}
+use Rattle.std.proofs.Common.{refl}
 use Rattle.typst_tree.proofs.FoundBelow.{joined}
 use Rattle.typst_tree.proofs.back.Found.with.Goals as goal
-
-pub overflow_sub-inner : goal.overflow_sub-inner
-overflow_sub-inner c = grind arith
 
 pub returns-clause-below : goal.returns-clause-below
 returns-clause-below c = λ o n in_order w.

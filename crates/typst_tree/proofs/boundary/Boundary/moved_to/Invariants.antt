@@ -1,5 +1,4 @@
-use Rattle.std.proofs.Common.{◌-◌, ◌≤◌}
-use Rattle.typst_tree.specs.Boundaries.{IsBoundary}
+use Rattle.typst_tree.proofs.Cited.{◌-◌, ◌≤◌, IsBoundary}
 use Rattle.typst_tree.proofs.boundary.Boundary.moved_to.Given as goal
 
 abbrev pub decreases-on : goal.decreases-on

@@ -1,8 +1,4 @@
-use Rattle.std.proofs.Common.{◌≡◌, ◌≤◌, List, ap, arith, drop, length, subst, sym, take, ◌∙◌}
-use Rattle.typst_tree.specs.Tree.{Tree, count, forest, nodes, trees}
-use Rattle.typst_tree.specs.Follows.{in_order_of}
-use Rattle.typst_tree.specs.Order.{AreInOrder, numbers_of}
-use Rattle.typst_tree.specs.Rows.{Holds}
+use Rattle.typst_tree.proofs.Cited.{◌≡◌, ◌≤◌, List, ap, arith, drop, length, subst, sym, take, ◌∙◌, Tree, count, forest, nodes, trees, in_order_of, AreInOrder, numbers_of, Holds}
 use Rattle.typst_tree.specs.Steps.{At}
 use Rattle.typst_tree.proofs.Boundaries.{kids_are, left_behind, nodes_below, stands_behind}
 use Rattle.typst_tree.proofs.Branches.{root_node, stands_in}

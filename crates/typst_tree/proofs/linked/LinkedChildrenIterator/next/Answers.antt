@@ -1,9 +1,4 @@
-use Rattle.std.proofs.lemmas.Grind.{common_steps}
-use Rattle.std.proofs.Common.{◌≡◌, ◌+◌, ◌∷◌, ap, sym, ◌∙◌, arith, length, map, refl}
-use Rattle.typst_tree.specs.Tree.{forest, places, count, nodes, trees, saturated, text_of}
-use Rattle.typst_tree.specs.Steps.{at}
-use Rattle.typst_tree.specs.Walks.{numbers}
-use Rattle.typst_tree.specs.Rows.{IsChild}
+use Rattle.typst_tree.proofs.Cited.{common_steps, ◌≡◌, ◌+◌, ◌∷◌, ap, sym, ◌∙◌, arith, length, map, refl, forest, places, count, nodes, trees, saturated, text_of, at, numbers}
 use Rattle.typst_tree.proofs.Forks.{holds_child, later}
 use Rattle.typst_tree.proofs.NodesOfStretch.{Row, row, stands_same}
 use Rattle.typst_tree.proofs.Rows.{first_of_row, index_counted}
@@ -28,7 +23,6 @@ invariant_of-child c =
     let t = c.in_ok-node.node.now in
     let r = row (places s.root.now) s.number s.offset t c.in_ok-node.rest.now (saturated (nodes t)) (saturated (length (text_of t))) (saturated (s.offset + saturated (length (text_of t)))) (omega (arith, length_places s.root.now, s.counted)) (stands_same _ _ _ _ _ c.in_ok-node.ensures.cases.0 s.stands) refl refl refl in
     let w = first_of_row (trees p.node.now.kids) s.index t c.in_ok-node.rest.now (sym s.row ∙ c.in_ok-node.ensures.cases.0) in
-    let child : IsChild p.node.now p.number t s.number s.index = record { here = w.here; number = s.before } in
     grind (arith, common_steps, holds_child)
 
 here : (c : After-saturating_add) → Row (places c.args.self.now.root.now) c.args.self.now.number c.args.self.now.offset c.in_ok-node.node.now c.in_ok-node.rest.now c.descendants.result c.len.result c.saturating_add.result
@@ -39,8 +33,7 @@ here c =
 -- the child comes before those that are left
 steps : (c : After-saturating_add) → map (at c.args.self.now.root.now) (numbers c.args.self.now.number (forest c.args.self.now.rest.now)) ≡ at c.args.self.now.root.now c.args.self.now.number ∷ map (at c.args.self.now.root.now) (numbers (c.args.self.now.number + c.descendants.result) (forest c.in_ok-node.rest.now))
 steps c =
-    let s = c.args.self.now in
-    let next : s.number + 1 + count c.in_ok-node.node.now.kids ≡ s.number + c.descendants.result = omega (arith, (here c).exact) in
+    let next : c.args.self.now.number + 1 + count c.in_ok-node.node.now.kids ≡ c.args.self.now.number + c.descendants.result = omega (arith, (here c).exact) in
     grind (arith, common_steps)
 
 pub invariant_of-self-2 : goal.invariant_of-self-2

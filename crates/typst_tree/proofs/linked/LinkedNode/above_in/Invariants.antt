@@ -1,5 +1,4 @@
-use Rattle.std.proofs.Common.{◌≡◌, ◌+◌, ◌-◌, ◌<◌}
-use Rattle.typst_tree.specs.Tree.{nodes}
+use Rattle.typst_tree.proofs.Cited.{◌≡◌, ◌+◌, ◌-◌, ◌<◌, nodes}
 use Rattle.typst_tree.proofs.linked.LinkedNode.above_in.Given as goal
 
 abbrev pub decreases-loop-parent : goal.decreases-loop-parent

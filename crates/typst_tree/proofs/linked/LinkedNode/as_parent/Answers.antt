@@ -1,6 +1,4 @@
-use Rattle.std.proofs.Common.{ap, sym}
-use Rattle.std.specs.Prelude.{nat_lt}
-use Rattle.typst_tree.specs.Rows.{long}
+use Rattle.typst_tree.proofs.Cited.{ap, sym, long, nat_lt}
 use Rattle.typst_tree.proofs.Rows.{length_row}
 use Rattle.typst_tree.proofs.linked.LinkedNode.as_parent.Goals as goal
 

@@ -1,5 +1,4 @@
-use Rattle.std.proofs.Common.{◌-◌, arith, sym, ◌∙◌}
-use Rattle.typst_tree.specs.Tree.{nodes, places}
+use Rattle.typst_tree.proofs.Cited.{◌-◌, arith, sym, ◌∙◌, nodes, places}
 use Rattle.typst_tree.proofs.Forks.{holds_behind}
 use Rattle.typst_tree.proofs.FoundBelow.{inside}
 use Rattle.typst_tree.proofs.NodesOfStretch.{stands_row}

@@ -1,5 +1,4 @@
-use Rattle.std.proofs.Common.{ap, arith}
-use Rattle.typst_tree.specs.Tree.{nodes, places}
+use Rattle.typst_tree.proofs.Cited.{ap, arith, nodes, places}
 use Rattle.typst_tree.proofs.Branches.{room}
 use Rattle.typst_tree.proofs.NodesOfStretch.{stands_row}
 use Rattle.typst_tree.proofs.linked.LinkedNode.child_over.Goals as goal

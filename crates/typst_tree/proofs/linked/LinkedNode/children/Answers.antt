@@ -1,7 +1,5 @@
-use Rattle.std.proofs.Common.{◌≡◌, ◌+◌, ap, sym, ◌∙◌, arith, length}
-use Rattle.typst_tree.specs.Tree.{places, saturated, trees}
+use Rattle.typst_tree.proofs.Cited.{◌≡◌, ◌+◌, ap, sym, ◌∙◌, arith, length, places, saturated, trees, in_order_of}
 use Rattle.typst_tree.proofs.SpansAside.{trees_forest}
-use Rattle.typst_tree.specs.Follows.{in_order_of}
 use Rattle.typst_tree.proofs.Branches.{room}
 use Rattle.typst_tree.proofs.NodesOfStretch.{node_here, stands_row}
 use Rattle.typst_tree.proofs.WalksInPreorder.{within_children}

@@ -1,5 +1,4 @@
-use Rattle.std.proofs.Common.{◌∙◌}
-use Rattle.typst_tree.specs.Linked.{linked}
+use Rattle.typst_tree.proofs.Cited.{◌∙◌, linked}
 use Rattle.typst_tree.proofs.FindsOwnSpan.{finds_own}
 use Rattle.typst_tree.proofs.linked.LinkedNode.find.Goals as goal
 

@@ -1,9 +1,7 @@
-use Rattle.std.proofs.Common.{◌∙◌, ap, arith, subst, sym}
-use Rattle.typst_tree.specs.Tree.{nodes}
+use Rattle.typst_tree.proofs.Cited.{◌∙◌, ap, arith, subst, sym, nodes, IsChild, IsOpen}
 use Rattle.typst_tree.proofs.Rows.{length_row}
-use Rattle.typst_tree.specs.Rows.{IsChild, IsOpen}
 use Rattle.typst_tree.proofs.Branches.{inside_top, stands_in}
-use Rattle.typst_tree.proofs.Forks.{ends_by, ends_open, open_child, open_root}
+use Rattle.typst_tree.proofs.Forks.{ends_by, open_child, open_root}
 use Rattle.typst_tree.proofs.NodesOfStretch.{stands_get}
 use Rattle.typst_tree.proofs.linked.LinkedNode.fork.Goals as goal
 
@@ -26,9 +24,6 @@ returns-then-end-least c =
     let over = c.loop-over.over in
     let i = c.loop-over.invariant in
     ends_by c.args.self.root.now c.args.self.number c.args.least over.node.now over.number over.offset (stands_in over i.root) i.clear i.from i.to (omega (arith, c.if-end-least.true, c.end.ensures))
-
-pub returns : goal.returns
-returns c = grind (arith, ends_open)
 
 pub loop-over-preserved : goal.loop-over-preserved
 loop-over-preserved c =

@@ -1,6 +1,4 @@
-use Rattle.std.proofs.Common.{◌≡◌, ◌+◌, ◌-◌, ◌<◌, ◌≤◌}
-use Rattle.typst_tree.specs.Tree.{nodes}
-use Rattle.typst_tree.specs.Rows.{IsOpen}
+use Rattle.typst_tree.proofs.Cited.{◌≡◌, ◌+◌, ◌-◌, ◌<◌, ◌≤◌, nodes, IsOpen}
 use Rattle.typst_tree.proofs.linked.LinkedNode.fork.Given as goal
 
 abbrev pub decreases-loop-over : goal.decreases-loop-over

@@ -1,10 +1,5 @@
-use Rattle.std.proofs.lemmas.Grind.{common_steps}
-use Rattle.std.proofs.Common.{◌≡◌, None, Some, ap, arith, sym, ◌∙◌}
-use Rattle.std.specs.Prelude.{if◌then◌else◌}
+use Rattle.typst_tree.proofs.Cited.{common_steps, ◌≡◌, None, Some, ap, arith, sym, ◌∙◌, nodes, places, at, first_at, holds_byte, if◌then◌else◌}
 use Rattle.std.specs.Option.{option_map}
-use Rattle.typst_tree.specs.Tree.{nodes, places}
-use Rattle.typst_tree.specs.Steps.{at}
-use Rattle.typst_tree.specs.Walks.{first_at, holds_byte}
 use Rattle.typst_tree.proofs.Branches.{room}
 use Rattle.typst_tree.proofs.NodesOfStretch.{first_here, stands_row}
 use Rattle.typst_tree.proofs.Parents.{child_bounds}

@@ -1,6 +1,4 @@
-use Rattle.std.proofs.Common.{◌≡◌}
-use Rattle.typst_tree.specs.Tree.{nodes, places}
-use Rattle.typst_tree.specs.Walks.{first_at, holds_byte}
+use Rattle.typst_tree.proofs.Cited.{◌≡◌, nodes, places, first_at, holds_byte}
 use Rattle.typst_tree.proofs.linked.LinkedNode.leaf_at.Given as goal
 
 abbrev pub decreases-loop-kid : goal.decreases-loop-kid

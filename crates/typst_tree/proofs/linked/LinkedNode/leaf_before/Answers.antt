@@ -1,7 +1,4 @@
-use Rattle.std.proofs.lemmas.Grind.{common_steps}
-use Rattle.std.proofs.Common.{◌≡◌, ◌+◌, ap, arith, refl, subst, sym, take, ◌∙◌}
-use Rattle.typst_tree.specs.Tree.{count, forest}
-use Rattle.typst_tree.specs.Branches.{leaf_until}
+use Rattle.typst_tree.proofs.Cited.{common_steps, ◌≡◌, ◌+◌, ap, arith, refl, subst, sym, take, ◌∙◌, count, forest, leaf_until}
 use Rattle.typst_tree.proofs.Branches.{beside_of, none_alone, until_here, until_row}
 use Rattle.typst_tree.proofs.Parents.{child_bounds}
 use Rattle.typst_tree.proofs.Rows.{StepBack, step_back}
@@ -10,9 +7,6 @@ use Rattle.typst_tree.proofs.linked.LinkedNode.leaf_before.Goals.{After-index-ro
 
 pub last_leaf-requires : goal.last_leaf-requires
 last_leaf-requires c = grind (arith, common_steps, child_bounds _ _ _ _ _ c.requires.child)
-
-pub returns-then-self-eq18446744073709551615 : goal.returns-then-self-eq18446744073709551615
-returns-then-self-eq18446744073709551615 c = grind arith
 
 pub loop-at-init : goal.loop-at-init
 loop-at-init c = let b = beside_of c.args.self c.args.above c.children-row.result.now c.requires c.children-row.ensures in grind (arith, common_steps)
@@ -37,12 +31,6 @@ child-kid-requires c =
       stands = rw (t.node, t.number, t.offset, b.number, b.offset) s.kid.stands;
       child = rw (t.node, t.number, t.index, b.number, b.index) s.kid.child;
     }
-
-pub last_leaf-requires-in-loop-at : goal.last_leaf-requires-in-loop-at
-last_leaf-requires-in-loop-at c = grind arith
-
-pub returns-in-Some : goal.returns-in-Some
-returns-in-Some c = grind arith
 
 pub loop-at-preserved : goal.loop-at-preserved
 loop-at-preserved c =

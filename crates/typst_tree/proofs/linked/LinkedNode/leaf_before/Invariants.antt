@@ -1,6 +1,4 @@
-use Rattle.std.proofs.Common.{◌≡◌, ◌+◌, ◌≤◌, ◌<◌, ◌^◌, take, length}
-use Rattle.typst_tree.specs.Tree.{forest, count, joined}
-use Rattle.typst_tree.specs.Branches.{leaf_until}
+use Rattle.typst_tree.proofs.Cited.{◌≡◌, ◌+◌, ◌≤◌, ◌<◌, ◌^◌, take, length, forest, count, joined, leaf_until}
 use Rattle.typst_tree.proofs.linked.LinkedNode.leaf_before.Given as goal
 
 abbrev pub decreases-loop-at : goal.decreases-loop-at

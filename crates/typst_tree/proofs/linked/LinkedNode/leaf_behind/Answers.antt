@@ -1,19 +1,14 @@
-use Rattle.std.proofs.lemmas.Grind.{common_steps}
-use Rattle.std.proofs.Common.{◌≡◌, ◌+◌, ap, arith, sym, ◌∙◌}
-use Rattle.typst_tree.specs.Tree.{nodes}
-use Rattle.typst_tree.specs.Branches.{leaf_after}
-use Rattle.typst_tree.specs.Linked.{linked}
+use Rattle.typst_tree.proofs.Cited.{common_steps, ◌≡◌, ◌+◌, ap, arith, sym, ◌∙◌, nodes, leaf_after, linked}
 use Rattle.typst_tree.proofs.Branches.{leaf_found, leaf_not_found, over_above, room}
 use Rattle.typst_tree.proofs.NodesOfStretch.{stands_row}
-use Rattle.typst_tree.proofs.Rows.{Over, all_counted, over}
+use Rattle.typst_tree.proofs.Rows.{Over, over}
 use Rattle.typst_tree.proofs.linked.LinkedNode.leaf_behind.Goals as goal
 use Rattle.typst_tree.proofs.linked.LinkedNode.leaf_behind.Goals.{After-index-row-at}
 
 pub behind-at-requires : goal.behind-at-requires
 behind-at-requires c =
     let o = over_above c.args.self c.args.above c.children-row.result.now c.requires c.children-row.ensures in
-    let p = c.passed.ensures in
-    record { index = omega (arith, p.index, o.next.within); counted = omega (arith, p.number, room c.args.self) }
+    record { index = omega (arith, c.passed.ensures.index, o.next.within); counted = omega (arith, c.passed.ensures.number, room c.args.self) }
 
 pub loop-at-init : goal.loop-at-init
 loop-at-init c = let o = over_above c.args.self c.args.above c.children-row.result.now c.requires c.children-row.ensures in grind (arith, common_steps)
@@ -54,6 +49,3 @@ loop-at-preserved c =
           ∙ (leaf_not_found c.child-kid.result at.number (omega (arith, number)) (omega (arith, number)) c.in_default.ensures
           ∙ (ap (leaf_after c.child-kid.result.root.now) end ∙ ap (λ r. leaf_after r next.result.number) root)));
     }
-
-pub returns : goal.returns
-returns c = grind (arith, all_counted)

@@ -1,7 +1,4 @@
-use Rattle.std.proofs.Common.{◌≡◌, ◌+◌, ◌-◌, length}
-use Rattle.typst_tree.specs.Tree.{nodes, saturated}
-use Rattle.typst_tree.specs.Branches.{leaf_after}
-use Rattle.typst_tree.specs.Passed.{IsPassed}
+use Rattle.typst_tree.proofs.Cited.{◌≡◌, ◌+◌, ◌-◌, length, nodes, saturated, leaf_after, IsPassed}
 use Rattle.typst_tree.proofs.linked.LinkedNode.leaf_behind.Given as goal
 
 abbrev pub decreases-loop-at : goal.decreases-loop-at

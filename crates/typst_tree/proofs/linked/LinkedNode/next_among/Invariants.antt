@@ -1,7 +1,5 @@
-use Rattle.std.proofs.Common.{◌≡◌}
-use Rattle.std.specs.Prelude.{find}
+use Rattle.typst_tree.proofs.Cited.{◌≡◌, find, is_sibling_after}
 use Rattle.typst_tree.specs.Linked.{linked, left}
-use Rattle.typst_tree.specs.Steps.{is_sibling_after}
 use Rattle.typst_tree.proofs.linked.LinkedNode.next_among.Given as goal
 
 abbrev pub invariant-loop-child : goal.invariant-loop-child

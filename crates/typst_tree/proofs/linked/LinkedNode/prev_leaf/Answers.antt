@@ -8,12 +8,6 @@ last_leaf-requires-clause-to c = omega (arith, inside_top c.args.self c.top.resu
 pub returns-in_default-branch : goal.returns-in_default-branch
 returns-in_default-branch c = grind (arith, until_top)
 
-pub returns-in-Some : goal.returns-in-Some
-returns-in-Some c = grind arith
-
-pub returns-in-Some-leaf_before : goal.returns-in-Some-leaf_before
-returns-in-Some-leaf_before c = grind arith
-
 pub last_leaf-requires-3-clause-to : goal.last_leaf-requires-3-clause-to
 last_leaf-requires-3-clause-to c =
     let w = c.in_Some-branch.ensures in

@@ -1,11 +1,6 @@
-use Rattle.std.proofs.lemmas.Grind.{common_steps}
-use Rattle.std.proofs.Common.{◌≡◌, ◌+◌, ap, sym, ◌∙◌, arith, drop, subst, take}
-use Rattle.typst_tree.specs.Tree.{forest, trees, count, nodes}
-use Rattle.typst_tree.specs.Order.{AreInOrder, numbers_of}
+use Rattle.typst_tree.proofs.Cited.{common_steps, ◌≡◌, ◌+◌, ap, sym, ◌∙◌, arith, drop, subst, take, forest, trees, count, nodes, AreInOrder, numbers_of, Holds, in_order_of}
 use Rattle.typst_tree.proofs.SpansAside.{trees_forest}
 use Rattle.typst_tree.proofs.Branches.{beside_of, stands_in}
-use Rattle.typst_tree.specs.Rows.{Holds}
-use Rattle.typst_tree.specs.Follows.{in_order_of}
 use Rattle.typst_tree.proofs.NodesOfStretch.{node_here}
 use Rattle.typst_tree.proofs.Rows.{row_stands}
 use Rattle.typst_tree.proofs.Siblings.{drop_numbers}

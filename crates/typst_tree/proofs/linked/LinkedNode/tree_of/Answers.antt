@@ -1,5 +1,4 @@
-use Rattle.std.proofs.Common.{ap, arith, get_or, sym, ◌∙◌}
-use Rattle.typst_tree.specs.Tree.{nodes}
+use Rattle.typst_tree.proofs.Cited.{ap, arith, get_or, sym, ◌∙◌, nodes}
 use Rattle.typst_tree.proofs.Branches.{tops_of}
 use Rattle.typst_tree.proofs.Forks.{Tops, index_within}
 use Rattle.typst_tree.proofs.linked.LinkedNode.tree_of.Goals as goal
@@ -30,6 +29,3 @@ returns c =
       from = omega arith;
       to = omega (arith, w.after, w.fits, c.from.ensures);
     }
-
-pub returns-2-clause-stands : goal.returns-2-clause-stands
-returns-2-clause-stands c = grind arith

@@ -1,12 +1,8 @@
-use Rattle.std.proofs.Common.{arith, sym, ◌∙◌}
-use Rattle.typst_tree.specs.Tree.{nodes, places}
+use Rattle.typst_tree.proofs.Cited.{arith, sym, ◌∙◌, nodes, places}
 use Rattle.typst_tree.proofs.Forks.{holds_joined}
 use Rattle.typst_tree.proofs.FoundBelow.{inside, within_from}
 use Rattle.typst_tree.proofs.NodesOfStretch.{stands_row}
 use Rattle.typst_tree.proofs.linked.LinkedNode.with_found.Goals as goal
-
-pub overflow_sub-found : goal.overflow_sub-found
-overflow_sub-found c = (inside c.args.self.number 0 c.args.self.node.now c.args.found.number c.args.found.begins c.args.found.node.now c.requires.within).from
 
 pub invariant_of-result : goal.invariant_of-result
 invariant_of-result c =

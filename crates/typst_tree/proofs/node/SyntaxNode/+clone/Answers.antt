@@ -1,8 +1,5 @@
-use Rattle.std.proofs.lemmas.Grind.{common_steps}
-use Rattle.std.proofs.Common.{arith, ap, sym, subst}
-use Rattle.std.proofs.lemmas.List.{length_push}
-use Rattle.typst_tree.specs.Tree.{Tree}
-use Rattle.typst_tree.proofs.Copies.{IsWay, Upper, way_down, way_up, way_done, way_nodes, without_push, without_skip, without_all, child_at, copied, copied_back, room_for}
+use Rattle.typst_tree.proofs.Cited.{common_steps, arith, ap, sym, subst, Tree}
+use Rattle.typst_tree.proofs.Copies.{IsWay, Upper, way_down, way_up, way_nodes, without_push, without_skip, without_all, child_at, copied, copied_back, room_for}
 use Rattle.typst_tree.proofs.Numbering.{nodes_at}
 use Rattle.typst_tree.proofs.node.SyntaxNode.+clone.Goals as goal
 use Rattle.typst_tree.proofs.node.SyntaxNode.+clone.Goals.{clone_kids_but-then-i-last+in_ok-kid+in_ok-push, clone_kids_but-else-i-last, try_clone-In-Some}
@@ -28,9 +25,6 @@ try_clone-clone_kids_but-requires t c = grind (arith, way_nodes)
 pub try_clone-clone_over-requires : goal.try_clone-clone_over-requires
 try_clone-clone_over-requires t c = grind (arith, copied)
 
-pub try_clone-loop-node-init : goal.try_clone-loop-node-init
-try_clone-loop-node-init t c = grind arith
-
 -- the last parent, of which a child was copied
 upper : (t : _) (c : try_clone-In-Some t) → Upper c.args.self.now c.pop.new.self.items c.in-Some.field-0 c.loop-node.copy
 upper t c =
@@ -55,9 +49,3 @@ pub try_clone-loop-node-preserved : goal.try_clone-loop-node-preserved
 try_clone-loop-node-preserved t c =
     let u = upper t (goal.at.try_clone-loop-node-preserved t c).In-Some in
     subst (λ (v : Tree). IsWay c.args.self.now c.pop.new.self.items v) (sym c.in_ok-copy-2.ensures) u.way
-
-pub try_clone-loop-node-smaller : goal.try_clone-loop-node-smaller
-try_clone-loop-node-smaller t c = grind (arith, length_push)
-
-pub try_clone-returns : goal.try_clone-returns
-try_clone-returns t c = grind (arith, way_done)

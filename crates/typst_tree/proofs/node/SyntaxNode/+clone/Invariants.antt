@@ -1,5 +1,4 @@
-use Rattle.std.proofs.Common.{◌≡◌, ◌+◌, ◌*◌, take, length}
-use Rattle.typst_tree.specs.Tree.{nodes}
+use Rattle.typst_tree.proofs.Cited.{◌≡◌, ◌+◌, ◌*◌, take, length, nodes}
 use Rattle.typst_tree.proofs.Copies.{IsWay, without}
 use Rattle.typst_tree.proofs.node.SyntaxNode.+clone.Given as goal
 

@@ -1,5 +1,4 @@
-use Rattle.std.proofs.Common.{◌≡◌, ◌+◌, ◌<◌, ◌≤◌, ◌^◌}
-use Rattle.typst_tree.specs.Tree.{nodes, saturated}
+use Rattle.typst_tree.proofs.Cited.{◌≡◌, ◌+◌, ◌<◌, ◌≤◌, ◌^◌, nodes, saturated}
 use Rattle.typst_tree.proofs.AddedChildren.{Adds, row_many}
 use Rattle.typst_tree.proofs.node.SyntaxNode.+descendants.Given as goal
 

@@ -1,7 +1,5 @@
-use Rattle.std.proofs.Common.{List, [], ◌∷◌, ◌≤◌, ◌+◌, rules, ap, arith}
-use denote.Param.Weighed.{most}
+use Rattle.typst_tree.proofs.Cited.{List, [], ◌∷◌, ◌≤◌, ◌+◌, rules, ap, arith, Tree, nodes, forest, count, most}
 use Rattle.typst_tree.specs.declared.node.SyntaxNode.TheDeep.{size-SyntaxNode}
-use Rattle.typst_tree.specs.Tree.{Tree, nodes, forest, count}
 use Rattle.typst_tree.proofs.Fewer.{most-swap_remove}
 use Rattle.typst_tree.proofs.node.SyntaxNode.+drop.Goals as goal
 

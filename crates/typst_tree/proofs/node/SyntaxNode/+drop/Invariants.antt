@@ -1,5 +1,4 @@
-use Rattle.std.proofs.Common.{◌≤◌}
-use Rattle.typst_tree.specs.Tree.{nodes}
+use Rattle.typst_tree.proofs.Cited.{◌≤◌, nodes}
 use Rattle.typst_tree.proofs.node.SyntaxNode.+drop.Given as goal
 
 abbrev pub invariant-drop_parent-loop-kids : goal.invariant-drop_parent-loop-kids

@@ -1,5 +1,4 @@
-use Rattle.std.proofs.Common.{◌≡◌, ◌+◌, ◌<◌, ◌≤◌, ◌^◌}
-use Rattle.typst_tree.specs.Tree.{nodes, saturated}
+use Rattle.typst_tree.proofs.Cited.{◌≡◌, ◌+◌, ◌<◌, ◌≤◌, ◌^◌, nodes, saturated}
 use Rattle.typst_tree.proofs.AddedChildren.{Adds, tree_long, row_long}
 use Rattle.typst_tree.proofs.node.SyntaxNode.+len.Given as goal
 

@@ -1,12 +1,8 @@
-use Rattle.std.proofs.lemmas.Grind.{common_steps}
-use Rattle.std.proofs.Common.{◌≡◌, ◌+◌, ◌*◌, ◌<◌, ◌≤◌, length, arith, refl, ap, sym, ◌∙◌}
-use Rattle.std.proofs.Math.ListN.{set}
-use Rattle.typst_tree.specs.Tree.{Tree, nodes, forest, count}
+use Rattle.typst_tree.proofs.Cited.{common_steps, ◌≡◌, ◌+◌, ◌*◌, ◌<◌, ◌≤◌, length, arith, refl, ap, sym, ◌∙◌, set, Tree, nodes, forest, count, numbered, numbered_list}
 use Rattle.typst_tree.proofs.Numbering.{Next, next_at, forest_numbered, nodes_numbered, text_numbered, numbered_bare}
 use Rattle.typst_tree.proofs.LastChild.{but_kept, counted, counted_still, counted_more, counted_here, counted_same, counted_all, counted_none}
 use Rattle.typst_tree.proofs.ChildlessLeaves.{whole_same_tree}
 use Rattle.typst_tree.proofs.Marks.{has_same}
-use Rattle.typst_tree.specs.Numbers.{numbered, numbered_list}
 use Rattle.typst_tree.proofs.node.SyntaxNode.+number.Goals as goal
 use Rattle.typst_tree.proofs.node.SyntaxNode.+number.Goals.{then-i-last, else-i-last, After-len-i-end, After-descendants-in-loop-i, After-descendants-then-last-len, After-number-then-last-len, Else-last-len}
 
@@ -20,25 +16,18 @@ below t c = let w = rw (all t c) at c.stride-step.ensures.within in omega (arith
 
 next : (t : _) (c : After-descendants-in-loop-i t) → Next c.stride-step.result (c.args.start + c.args.room) c.loop-i.at c.descendants-in-loop-i.result c.loop-i.i c.self.inside.kids.items c.index_mut-kid.result.now
 next t c =
-    let xs = c.self.inside.kids.items in
-    let x = c.index_mut-kid.result.now in
-    let within : c.loop-i.i < length xs = omega (arith, c.self.inside.kids.ok.0) in
-    let is = counted_still c.args.id.now c.stride-step.result (c.args.start + c.stride-step.result) c.loop-i.self-inside.kids.items xs c.last_to_go-last.result c.loop-i.i x c.loop-i.invariant.done within c.index_mut-kid.ensures.value in
-    next_at c.stride-step.result (c.args.start + c.stride-step.result) (c.args.start + c.args.room) c.loop-i.at c.descendants-in-loop-i.result c.loop-i.i xs x
+    let within : c.loop-i.i < length c.self.inside.kids.items = omega (arith, c.self.inside.kids.ok.0) in
+    let is = counted_still c.args.id.now c.stride-step.result (c.args.start + c.stride-step.result) c.loop-i.self-inside.kids.items _ c.last_to_go-last.result c.loop-i.i _ c.loop-i.invariant.done within c.index_mut-kid.ensures.value in
+    next_at c.stride-step.result (c.args.start + c.stride-step.result) (c.args.start + c.args.room) c.loop-i.at c.descendants-in-loop-i.result c.loop-i.i _ _
     c.stride-step.ensures.step within is c.loop-i.invariant.place (below t (goal.at.overflow_mul-share t c).After-len-i-end) c.requires.fits c.descendants-in-loop-i.ensures
 
 last_next : (t : _) (c : After-descendants-then-last-len t) → Next c.stride-step.result (c.args.start + c.args.room) c.loop-i.start_of_last c.descendants-then-last-len.result c.last_to_go-last.result c.self.inside.kids.items c.index_mut-kid-then-last-len.result.now
 last_next t c =
-    let xs = c.self.inside.kids.items in
-    let x = c.index_mut-kid-then-last-len.result.now in
-    let passed : length xs ≤ c.loop-i.i = omega (arith, c.self.inside.kids.ok.0) in
-    let within : c.last_to_go-last.result < length xs = omega (arith, c.self.inside.kids.ok.0, c.loop-i.invariant.many) in
-    let is = counted_same c.args.id.now c.stride-step.result (c.args.start + c.stride-step.result) c.loop-i.self-inside.kids.items xs c.last_to_go-last.result c.loop-i.i x c.loop-i.invariant.done passed within c.index_mut-kid-then-last-len.ensures.value in
-    next_at c.stride-step.result (c.args.start + c.stride-step.result) (c.args.start + c.args.room) c.loop-i.start_of_last c.descendants-then-last-len.result c.last_to_go-last.result xs x
+    let passed : length c.self.inside.kids.items ≤ c.loop-i.i = omega (arith, c.self.inside.kids.ok.0) in
+    let within : c.last_to_go-last.result < length c.self.inside.kids.items = omega (arith, c.self.inside.kids.ok.0, c.loop-i.invariant.many) in
+    let is = counted_same c.args.id.now c.stride-step.result (c.args.start + c.stride-step.result) c.loop-i.self-inside.kids.items _ c.last_to_go-last.result c.loop-i.i _ c.loop-i.invariant.done passed within c.index_mut-kid-then-last-len.ensures.value in
+    next_at c.stride-step.result (c.args.start + c.stride-step.result) (c.args.start + c.args.room) c.loop-i.start_of_last c.descendants-then-last-len.result c.last_to_go-last.result _ _
     c.stride-step.ensures.step within is (c.loop-i.invariant.last_place (omega (arith, within, passed))) (below t (goal.at.overflow_mul-share-then-last-len t c).After-len-i-end) c.requires.fits c.descendants-then-last-len.ensures
-
-pub index_mut-kid-requires : goal.index_mut-kid-requires
-index_mut-kid-requires t c = omega (arith, c.loop-i.invariant.many)
 
 pub overflow_mul-share : goal.overflow_mul-share
 overflow_mul-share t c = let n = next t c in rw n.counted (omega (arith, n.fits, c.requires.fits))

@@ -1,5 +1,4 @@
-use Rattle.std.proofs.Common.{◌≡◌, ◌+◌, ◌*◌, ◌<◌, take, vec_len}
-use Rattle.typst_tree.specs.Tree.{forest, count}
+use Rattle.typst_tree.proofs.Cited.{◌≡◌, ◌+◌, ◌*◌, ◌<◌, take, vec_len, forest, count}
 use Rattle.typst_tree.proofs.LastChild.{ButLast, counted}
 use Rattle.typst_tree.proofs.node.SyntaxNode.+number.Given as goal
 

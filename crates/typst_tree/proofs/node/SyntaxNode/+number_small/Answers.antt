@@ -1,11 +1,7 @@
-use Rattle.std.proofs.lemmas.Grind.{common_steps}
-use Rattle.std.proofs.Common.{◌≡◌, ◌+◌, ◌*◌, ◌≤◌, get_or, arith, ap, sym, ◌∙◌}
-use Rattle.std.proofs.Math.ListN.{length-set}
-use Rattle.typst_tree.specs.Tree.{Tree, nodes, forest, count}
+use Rattle.typst_tree.proofs.Cited.{common_steps, ◌≡◌, ◌+◌, ◌*◌, ◌≤◌, get_or, arith, ap, sym, ◌∙◌, length-set, Tree, nodes, forest, count, numbered}
 use Rattle.typst_tree.proofs.Numbering.{Next, next_fits, numbered_more, numbered_vec, forest_numbered, nodes_numbered, text_numbered, numbered_bare, later}
 use Rattle.typst_tree.proofs.ChildlessLeaves.{whole_same_tree}
 use Rattle.typst_tree.proofs.Marks.{has_same}
-use Rattle.typst_tree.specs.Numbers.{numbered}
 use Rattle.typst_tree.proofs.node.SyntaxNode.+number_small.Goals as goal
 use Rattle.typst_tree.proofs.node.SyntaxNode.+number_small.Goals.{number_kids-After-descendants-in-loop-kid}
 
@@ -30,11 +26,9 @@ number_kids-overflow_add-at-in-loop-kid t c = let n = next t c.before in rw n.co
 pub number_kids-loop-kid-preserved : goal.number_kids-loop-kid-preserved
 number_kids-loop-kid-preserved t c =
     let n = next t c.before in
-    let xs = c.deref_mut-kid-items.result.now in
-    let i = c.loop-kid.kid-index in
-    let m = numbered_more c.args.id.now c.stride-step.result (c.args.start + c.stride-step.result) c.loop-kid.at xs c.loop-kid.kid-items i c.kid-item.result (omega arith) c.loop-kid.invariant.done c.kid-item.is c.loop-kid.invariant.place in
+    let m = numbered_more c.args.id.now c.stride-step.result (c.args.start + c.stride-step.result) c.loop-kid.at _ c.loop-kid.kid-items _ c.kid-item.result (omega arith) c.loop-kid.invariant.done c.kid-item.is c.loop-kid.invariant.place in
     record {
-      unvisited = (length-set _ _ _ ∙ c.loop-kid.invariant.unvisited.0, later xs c.loop-kid.kid-items i c.number_small.new.self c.loop-kid.invariant.unvisited.1);
+      unvisited = (length-set _ _ _ ∙ c.loop-kid.invariant.unvisited.0, later _ c.loop-kid.kid-items _ c.number_small.new.self c.loop-kid.invariant.unvisited.1);
       place = rw (n.counted, n.more_by) (omega (arith, c.loop-kid.invariant.place));
       done = rw (c.number_small.ensures, n.counted, ← c.kid-item.is) m;
     }

@@ -1,6 +1,4 @@
-use Rattle.std.proofs.Common.{◌≡◌, ◌+◌, ◌*◌, ◌++◌, take, drop}
-use Rattle.typst_tree.specs.Tree.{forest, count}
-use Rattle.typst_tree.specs.Numbers.{numbered_list}
+use Rattle.typst_tree.proofs.Cited.{◌≡◌, ◌+◌, ◌*◌, ◌++◌, take, drop, forest, count, numbered_list}
 use Rattle.typst_tree.proofs.node.SyntaxNode.+number_small.Given as goal
 
 abbrev pub invariant-number_kids-loop-kid : goal.invariant-number_kids-loop-kid

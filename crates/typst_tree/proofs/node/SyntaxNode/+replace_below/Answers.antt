@@ -1,6 +1,4 @@
-use Rattle.std.proofs.lemmas.Grind.{common_steps}
-use Rattle.std.proofs.Common.{ℕ, [], ◌∷◌, arith}
-use Rattle.std.proofs.Math.ListN.{set}
+use Rattle.typst_tree.proofs.Cited.{common_steps, ℕ, [], ◌∷◌, arith, set}
 use Rattle.typst_tree.proofs.Numbering.{some_nodes}
 use Rattle.typst_tree.proofs.StepDown.{reached, replaced_on, replaced_at_not}
 use Rattle.typst_tree.proofs.MovedCounts.{Recounted, set_moved, one_total, recounted}
@@ -25,9 +23,6 @@ counted t c =
     (recounted c.self-2.inside.own c.self-2.inside.kids.items (set c.self-2.inside.kids.items c.in-Some.first.now c.replace_below.new.self) (c.index_mut-kid.result.now ∷ []) (c.replace_below.new.self ∷ []) c.counts-gone.result c.counts-come.result m c.self-2.invariant.0 c.self-2.invariant.1
     (one_total c.index_mut-kid.result.now c.counts-gone.result c.counts-gone.ensures.len c.counts-gone.ensures.nodes)
     (one_total c.replace_below.new.self c.counts-come.result c.counts-come.ensures.len c.counts-come.ensures.nodes))
-
-pub recount-requires-clause-inner : goal.recount-requires-clause-inner
-recount-requires-clause-inner t c = grind (arith, common_steps)
 
 pub recount-requires-clause-shorter : goal.recount-requires-clause-shorter
 recount-requires-clause-shorter t c = (counted t c).shorter

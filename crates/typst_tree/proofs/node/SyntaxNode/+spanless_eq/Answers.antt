@@ -1,5 +1,4 @@
-use Rattle.std.proofs.Common.{arith, refl, ap}
-use Rattle.typst_tree.specs.Tree.{nodes}
+use Rattle.typst_tree.proofs.Cited.{arith, refl, ap, nodes}
 use Rattle.typst_tree.proofs.SpansAside.{parts_from_bare, bare_from_parts, lengths_from_bare, same_at, same_but, same_in}
 use Rattle.typst_tree.proofs.Numbering.{nodes_at}
 use Rattle.typst_tree.proofs.node.SyntaxNode.+spanless_eq.Goals as goal

@@ -1,5 +1,4 @@
-use Rattle.std.proofs.Common.{◌≡◌, ◌≢◌, ℕ, ◌<◌, ◌≤◌, get_or}
-use Rattle.typst_tree.specs.Tree.{Tree, bare, nodes}
+use Rattle.typst_tree.proofs.Cited.{◌≡◌, ◌≢◌, ℕ, ◌<◌, ◌≤◌, get_or, Tree, bare, nodes}
 use Rattle.typst_tree.proofs.node.SyntaxNode.+spanless_eq.Given as goal
 
 abbrev pub invariant-loop-i : goal.invariant-loop-i

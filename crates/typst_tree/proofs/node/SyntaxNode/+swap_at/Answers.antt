@@ -1,8 +1,4 @@
-use Rattle.std.proofs.Common.{◌≡◌, ◌<◌, ◌-◌, ◌^◌, ◌||◌, ℕ, [], ◌∷◌, Some, length, arith, refl, ap, sym, ◌∙◌}
-use Rattle.std.proofs.Math.ListN.{set}
-use Rattle.typst_kinds.specs.Head.{has_any}
-use Rattle.typst_tree.specs.Tree.{Tree, count, nodes, text_of, has_diagnostics}
-use Rattle.typst_tree.specs.Replace.{ComesTo, node_at}
+use Rattle.typst_tree.proofs.Cited.{◌≡◌, ◌<◌, ◌-◌, ◌^◌, ◌||◌, ℕ, [], ◌∷◌, Some, length, arith, refl, ap, sym, ◌∙◌, set, has_any, Tree, count, nodes, text_of, has_diagnostics, ComesTo, node_at}
 use Rattle.typst_tree.proofs.Numbering.{some_nodes}
 use Rattle.typst_tree.proofs.MovedCounts.{one_total, recounted}
 use Rattle.typst_tree.proofs.SpansAside.{over}
@@ -28,12 +24,10 @@ index_mut-kid-requires t c =
 
 pub swap_at-requires : goal.swap_at-requires
 swap_at-requires t c =
-    let xs = c.self.inside.kids.items in
     let i = c.in-Some.first.now in
-    let k = c.index_mut-kid.result.now in
-    let r = leads (λ x. ComesTo x c.args.swap.now.gone) c.args.path.now c.in-Some.rest.now i c.args.self.now c.self.inside.own.head xs c.self.view_is c.in-Some.ensures.cases.0 c.requires.gone in
-    let s = smaller (i ∷ []) k c.args.self.now (node_on (i ∷ []) [] i c.args.self.now k c.self.inside.own.head xs c.self.view_is refl r.0 c.index_mut-kid.ensures.value) in
-    (omega (arith, c.decreases, c.in-Some.ensures.cases.1), (omega (arith, s.0, c.requires.short), (omega (arith, s.1, c.requires.few), (rw c.index_mut-kid.ensures.value (r.1 k), (c.requires.come, λ e. c.saturating_sub.ensures ∙ ap (λ n. n - 1) (c.requires.levels e) ∙ levels_on c.args.path.now c.in-Some.rest.now i c.args.self.now k c.self.inside.own.head xs c.self.view_is c.in-Some.ensures.cases.0 r.0 c.index_mut-kid.ensures.value)))))
+    let r = leads (λ x. ComesTo x c.args.swap.now.gone) c.args.path.now c.in-Some.rest.now i c.args.self.now c.self.inside.own.head _ c.self.view_is c.in-Some.ensures.cases.0 c.requires.gone in
+    let s = smaller (i ∷ []) _ c.args.self.now (node_on (i ∷ []) [] i c.args.self.now _ c.self.inside.own.head _ c.self.view_is refl r.0 c.index_mut-kid.ensures.value) in
+    (omega (arith, c.decreases, c.in-Some.ensures.cases.1), (omega (arith, s.0, c.requires.short), (omega (arith, s.1, c.requires.few), (rw c.index_mut-kid.ensures.value (r.1 _), (c.requires.come, λ e. c.saturating_sub.ensures ∙ ap (λ n. n - 1) (c.requires.levels e) ∙ levels_on c.args.path.now c.in-Some.rest.now i c.args.self.now _ c.self.inside.own.head _ c.self.view_is c.in-Some.ensures.cases.0 r.0 c.index_mut-kid.ensures.value)))))
 
 pub invariant_of-self : goal.invariant_of-self
 invariant_of-self t c =
@@ -61,15 +55,11 @@ invariant_of-self t c =
 
 pub returns-clause-tree : goal.returns-clause-tree
 returns-clause-tree t c =
-    let xs = c.self.inside.kids.items in
-    let i = c.in-Some.first.now in
-    let r = leads (λ x. ComesTo x c.args.swap.now.gone) c.args.path.now c.in-Some.rest.now i c.args.self.now c.self.inside.own.head xs c.self.view_is c.in-Some.ensures.cases.0 c.requires.gone in
+    let r = leads (λ x. ComesTo x c.args.swap.now.gone) c.args.path.now c.in-Some.rest.now _ c.args.self.now c.self.inside.own.head _ c.self.view_is c.in-Some.ensures.cases.0 c.requires.gone in
     rw c.set_counts.ensures
-    (put_on c.args.path.now c.in-Some.rest.now i c.args.node.now c.args.self.now c.index_mut-kid.result.now c.swap_at.new.self c.self.inside.own.head xs c.self.view_is c.in-Some.ensures.cases.0 r.0 c.index_mut-kid.ensures.value c.swap_at.ensures.tree)
+    (put_on c.args.path.now c.in-Some.rest.now _ c.args.node.now c.args.self.now c.index_mut-kid.result.now c.swap_at.new.self c.self.inside.own.head _ c.self.view_is c.in-Some.ensures.cases.0 r.0 c.index_mut-kid.ensures.value c.swap_at.ensures.tree)
 
 pub returns-clause-node : goal.returns-clause-node
 returns-clause-node t c =
-    let xs = c.self.inside.kids.items in
-    let i = c.in-Some.first.now in
-    let r = leads (λ x. ComesTo x c.args.swap.now.gone) c.args.path.now c.in-Some.rest.now i c.args.self.now c.self.inside.own.head xs c.self.view_is c.in-Some.ensures.cases.0 c.requires.gone in
-    node_on c.args.path.now c.in-Some.rest.now i c.args.self.now c.index_mut-kid.result.now c.self.inside.own.head xs c.self.view_is c.in-Some.ensures.cases.0 r.0 c.index_mut-kid.ensures.value ∙ c.swap_at.ensures.node
+    let r = leads (λ x. ComesTo x c.args.swap.now.gone) c.args.path.now c.in-Some.rest.now _ c.args.self.now c.self.inside.own.head _ c.self.view_is c.in-Some.ensures.cases.0 c.requires.gone in
+    node_on c.args.path.now c.in-Some.rest.now _ c.args.self.now c.index_mut-kid.result.now c.self.inside.own.head _ c.self.view_is c.in-Some.ensures.cases.0 r.0 c.index_mut-kid.ensures.value ∙ c.swap_at.ensures.node

@@ -1,5 +1,4 @@
-use Rattle.std.proofs.Common.{◌≡◌, vec_len}
-use Rattle.typst_tree.specs.Tree.{synthesized}
+use Rattle.typst_tree.proofs.Cited.{◌≡◌, vec_len, synthesized}
 use Rattle.typst_tree.proofs.LastChild.{ButLast, mapped}
 use Rattle.typst_tree.proofs.node.SyntaxNode.+synthesize_as.Given as goal
 

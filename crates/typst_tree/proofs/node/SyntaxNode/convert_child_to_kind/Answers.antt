@@ -1,6 +1,4 @@
-use Rattle.std.proofs.Common.{◌||◌, arith, refl, ap, sym, ◌∙◌}
-use Rattle.typst_kinds.specs.Head.{has_any}
-use Rattle.typst_tree.specs.Tree.{with_kind, at_tree, forest}
+use Rattle.typst_tree.proofs.Cited.{◌||◌, arith, refl, ap, sym, ◌∙◌, has_any, with_kind, at_tree, forest}
 use Rattle.typst_tree.proofs.ChildlessLeaves.{whole_kind}
 use Rattle.typst_tree.proofs.Forests.{forest_set, at_tree_past, joined_kind, count_kind}
 use Rattle.typst_tree.proofs.Marks.{have_kind}

@@ -1,5 +1,4 @@
-use Rattle.std.proofs.Common.{arith}
-use Rattle.std.proofs.lemmas.Bool.Decides.{nat_tests}
+use Rattle.typst_tree.proofs.Cited.{arith, nat_tests}
 use Rattle.typst_tree.proofs.SpansAside.{trees_forest}
 use Rattle.typst_tree.proofs.node.SyntaxNode.has_children.Goals as goal
 

@@ -1,5 +1,4 @@
-use Rattle.std.proofs.Common.{ap, sym, ◌∙◌, arith, eq-eqb, length}
-use Rattle.typst_tree.specs.Tree.{text_of}
+use Rattle.typst_tree.proofs.Cited.{ap, sym, ◌∙◌, arith, eq-eqb, length, text_of}
 use Rattle.typst_tree.proofs.Numbering.{count_bare}
 use Rattle.typst_tree.proofs.ReplacesChildren.{text_bare}
 use Rattle.typst_tree.proofs.node.SyntaxNode.is_as_large.Goals as goal

@@ -1,5 +1,4 @@
-use Rattle.std.proofs.Common.{◌≡◌, drop}
-use Rattle.typst_tree.specs.Replace.{marked_levels}
+use Rattle.typst_tree.proofs.Cited.{◌≡◌, drop, marked_levels}
 use Rattle.typst_tree.proofs.PathMarks.{all_levels}
 use Rattle.typst_tree.proofs.node.SyntaxNode.marked_levels.Given as goal
 

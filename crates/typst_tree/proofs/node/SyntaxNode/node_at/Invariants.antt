@@ -1,5 +1,4 @@
-use Rattle.std.proofs.Common.{◌≡◌, drop}
-use Rattle.typst_tree.specs.Replace.{node_at}
+use Rattle.typst_tree.proofs.Cited.{◌≡◌, drop, node_at}
 use Rattle.typst_tree.proofs.node.SyntaxNode.node_at.Given as goal
 
 abbrev pub invariant-loop-at : goal.invariant-loop-at

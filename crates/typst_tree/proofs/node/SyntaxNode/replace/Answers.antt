@@ -1,5 +1,4 @@
-use Rattle.std.proofs.lemmas.Grind.{common_steps}
-use Rattle.std.proofs.Common.{arith}
+use Rattle.typst_tree.proofs.Cited.{common_steps, arith}
 use Rattle.typst_tree.proofs.SpansAside.{trees_forest}
 use Rattle.typst_tree.proofs.StepDown.{replaced_is, replaced_not}
 use Rattle.typst_tree.proofs.MovedCounts.{Recounted, swapped_moved, recounted}

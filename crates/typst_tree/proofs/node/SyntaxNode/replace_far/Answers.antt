@@ -1,9 +1,5 @@
-use Rattle.std.proofs.Common.{◌≡◌, [], Option, Some, Result, length, arith, refl}
-use Rattle.std.specs.Prelude.{IsSome, option_map, IfErr}
-use Rattle.std.proofs.lemmas.Bool.{true≢false}
+use Rattle.typst_tree.proofs.Cited.{◌≡◌, [], Option, Some, Result, length, arith, refl, IsSome, option_map, IfErr, Tree, nodes, text_of, Reaches}
 use Rattle.std.proofs.lemmas.Result.{on_ok_weaker, on_err_weaker}
-use Rattle.typst_tree.specs.Tree.{Tree, nodes, text_of}
-use Rattle.typst_tree.specs.Replace.{Reaches}
 use Rattle.typst_tree.proofs.PutAt.{at_some, changed_by, put_back, put_there, reaches_there, refused_there, replaced_back}
 use Rattle.typst_tree.proofs.node.SyntaxNode.replace_far.Goals as goal
 use Rattle.typst_tree.proofs.node.SyntaxNode.replace_far.Goals.{After-swap_at}
@@ -39,9 +35,6 @@ swap_at-requires-2-clause-few c =
 
 pub swap_at-requires-2-clause-gone : goal.swap_at-requires-2-clause-gone
 swap_at-requires-2-clause-gone c = grind (arith, put_there)
-
-pub swap_at-requires-2-clause-levels : goal.swap_at-requires-2-clause-levels
-swap_at-requires-2-clause-levels c = grind (arith, true≢false)
 
 pub returns-clause-ok : goal.returns-clause-ok
 returns-clause-ok c = grind (arith, on_ok_weaker, replaced_back)

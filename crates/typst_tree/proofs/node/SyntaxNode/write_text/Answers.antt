@@ -1,14 +1,7 @@
-use Rattle.std.proofs.lemmas.Grind.{common_steps}
-use Rattle.std.proofs.Common.{◌≡◌, [], ◌∷◌, ◌++◌, ap, sym, ◌∙◌, arith}
-use Rattle.typst_tree.proofs.Waiting.{rows_of, rows_more, waiting_text, turns_more, first_row, opened, opened_turns, closed}
+use Rattle.typst_tree.proofs.Cited.{◌≡◌, [], ◌∷◌, ◌++◌, ap, sym, ◌∙◌, arith}
+use Rattle.typst_tree.proofs.Waiting.{rows_of, rows_more, waiting_text, turns_more, opened, opened_turns, closed}
 use Rattle.typst_tree.proofs.node.SyntaxNode.write_text.Goals as goal
 use Rattle.typst_tree.proofs.node.SyntaxNode.write_text.Goals.{In-Some, In_ok-push-5}
-
-pub returns-then-is_empty : goal.returns-then-is_empty
-returns-then-is_empty c = grind (arith, common_steps)
-
-pub loop-row-init : goal.loop-row-init
-loop-row-init c = grind (arith, first_row)
 
 -- the rows that waited when one was taken
 taken : (c : In-Some) → rows_of c.loop-row.waiting.items ≡ rows_of c.pop.new.self.items ++ c.in-Some.row.now ∷ []
@@ -35,6 +28,3 @@ loop-row-preserved-in-Continue-branch-5 c =
 
 pub loop-row-smaller-in-Continue-branch-5 : goal.loop-row-smaller-in-Continue-branch-5
 loop-row-smaller-in-Continue-branch-5 c = grind (arith, put_in, taken, opened_turns)
-
-pub returns : goal.returns
-returns c = grind (arith, common_steps)

@@ -1,5 +1,4 @@
-use Rattle.std.proofs.Common.{◌≡◌, ◌++◌}
-use Rattle.typst_tree.specs.Tree.{text_of}
+use Rattle.typst_tree.proofs.Cited.{◌≡◌, ◌++◌, text_of}
 use Rattle.typst_tree.proofs.Waiting.{rows_of, waiting_text, turns}
 use Rattle.typst_tree.proofs.node.SyntaxNode.write_text.Given as goal
 

@@ -1,6 +1,5 @@
-use Rattle.std.proofs.Common.{◌≡◌, ◌∷◌, [], Result, OnErr, cond, ap, sym, subst, ◌∙◌, arith}
+use Rattle.typst_tree.proofs.Cited.{◌≡◌, ◌∷◌, [], Result, OnErr, cond, ap, sym, subst, ◌∙◌, arith, visited, marked, diagnosed}
 use Rattle.std.specs.Iterator.{YieldsFirstBy}
-use Rattle.typst_tree.specs.Preorder.{visited, marked, diagnosed}
 use Rattle.typst_tree.proofs.LeftRows.{diagnosed_same, diagnosed_next}
 use Rattle.typst_tree.proofs.preorder.Preorder.next_diagnosed.Goals as goal
 
@@ -15,9 +14,6 @@ loop-visit-preserved c =
     let new = c.next_marked.new.self in
     let next : marked old ≡ v ∷ marked new = subst (λ o. YieldsFirstBy visited marked old o new) c.in-Some.is c.in_ok-visit.ensures.ok in
     sym (diagnosed_next old v new next ∙ ap (λ b. cond b (v ∷ diagnosed new) (diagnosed new)) (sym c.is_diagnosed.ensures ∙ c.if-is_diagnosed.false)) ∙ c.loop-visit.invariant
-
-pub loop-visit-smaller : goal.loop-visit-smaller
-loop-visit-smaller c = grind arith
 
 pub returns-then-is_diagnosed-clause-ok : goal.returns-then-is_diagnosed-clause-ok
 returns-then-is_diagnosed-clause-ok c =

@@ -1,5 +1,4 @@
-use Rattle.std.proofs.Common.{◌≡◌, length}
-use Rattle.typst_tree.specs.Preorder.{marked, diagnosed}
+use Rattle.typst_tree.proofs.Cited.{◌≡◌, length, marked, diagnosed}
 use Rattle.typst_tree.proofs.preorder.Preorder.next_diagnosed.Given as goal
 
 abbrev pub invariant-loop-visit : goal.invariant-loop-visit

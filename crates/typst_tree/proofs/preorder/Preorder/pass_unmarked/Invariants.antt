@@ -1,6 +1,4 @@
-use Rattle.std.proofs.Common.{◌≡◌, ◌++◌, length}
-use Rattle.typst_tree.specs.Preorder.{marked}
-use Rattle.typst_tree.specs.LeftRows.{IsReady, left, left_above}
+use Rattle.typst_tree.proofs.Cited.{◌≡◌, ◌++◌, length, marked, IsReady, left, left_above}
 use Rattle.typst_tree.proofs.preorder.Preorder.pass_unmarked.Given as goal
 
 abbrev pub invariant-loop-visit : goal.invariant-loop-visit

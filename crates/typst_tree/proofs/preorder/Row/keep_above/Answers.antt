@@ -1,5 +1,4 @@
-use Rattle.std.proofs.Common.{ap, ◌∙◌}
-use Rattle.typst_tree.specs.LeftRows.{left_above}
+use Rattle.typst_tree.proofs.Cited.{ap, ◌∙◌, left_above}
 use Rattle.typst_tree.proofs.LeftRows.{left_pushed}
 use Rattle.typst_tree.proofs.preorder.Row.keep_above.Goals as goal
 

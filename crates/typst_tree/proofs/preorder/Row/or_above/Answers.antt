@@ -1,5 +1,4 @@
-use Rattle.std.proofs.Common.{arith}
-use Rattle.std.proofs.lemmas.Bool.Decides.{nat_tests}
+use Rattle.typst_tree.proofs.Cited.{arith, nat_tests}
 use Rattle.typst_tree.proofs.LeftRows.{popped}
 use Rattle.typst_tree.proofs.preorder.Row.or_above.Goals as goal
 

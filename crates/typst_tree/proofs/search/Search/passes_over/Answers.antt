@@ -1,5 +1,4 @@
-use Rattle.std.proofs.Common.{arith}
-use Rattle.std.proofs.lemmas.Bool.Decides.{nat_tests}
+use Rattle.typst_tree.proofs.Cited.{arith, nat_tests}
 use Rattle.typst_tree.proofs.PassesOver.{no_leaf}
 use Rattle.typst_tree.proofs.search.Search.passes_over.Goals as goal
 

@@ -1,11 +1,7 @@
-use Rattle.std.proofs.lemmas.Grind.{common_steps}
-use Rattle.std.proofs.Common.{◌≡◌, None, ap, arith}
-use Rattle.typst_tree.specs.Tree.{nodes, saturated}
-use Rattle.typst_tree.specs.Looked.{IsIn, FoundFrom, first_of}
-use Rattle.typst_tree.specs.Wanted.{wanted}
+use Rattle.typst_tree.proofs.Cited.{common_steps, ◌≡◌, None, ap, arith, nodes, saturated, IsIn, FoundFrom, first_of, wanted}
 use Rattle.typst_tree.proofs.Rows.{all_counted, over}
 use Rattle.typst_tree.proofs.WalksInPreorder.{found_self, within_self, within_in}
-use Rattle.typst_tree.proofs.FoundFrom.{among, found_in, from_below, from_either, from_less, from_none, from_on, from_own, from_past, from_past_own, looks_all}
+use Rattle.typst_tree.proofs.FoundFrom.{among, found_in, from_below, from_either, from_less, from_none, from_on, from_own, from_past, from_past_own}
 use Rattle.typst_tree.proofs.search.Spot.+first_from.Goals as goal
 
 pub first_from-loop-spot-init : goal.first_from-loop-spot-init
@@ -87,9 +83,8 @@ first_behind-loop-left-preserved t c =
     let o = c.args.self.now in
     let b = c.towards-below.result in
     let e = c.towards-below.ensures in
-    let a = among o b e.spot in
     record {
-      begun = omega (arith, a.0, c.end-from.ensures);
+      begun = omega (arith, (among o b e.spot).0, c.end-from.ensures);
       found = from_on p c.end-from.result o b e.spot (from_less p c.loop-left.from b.number o (omega (arith, e.from)) c.loop-left.invariant.found) (from_none p c.end-from.result b (rw c.in_default.is at c.first_behind.ensures)) (omega (arith, c.end-from.ensures));
     }
 
@@ -100,33 +95,23 @@ pub first_behind-end-from-requires : goal.first_behind-end-from-requires
 first_behind-end-from-requires t c =
     omega (arith, (among c.args.self.now c.towards-below.result c.towards-below.ensures.spot).1, c.requires.counted)
 
-pub first_behind-returns : goal.first_behind-returns
-first_behind-returns t c = grind (arith, looks_all)
-
 pub first_from-overflow_add-spot : goal.first_from-overflow_add-spot
 first_from-overflow_add-spot t c =
     omega (arith, (among c.args.self.now c.loop-spot.spot c.loop-spot.invariant.inside).1, c.requires.counted)
 
-pub look-loop-at-init : goal.look-loop-at-init
-look-loop-at-init t c = grind (arith, common_steps)
-
 pub look-behind-at-requires-clause-counted : goal.look-behind-at-requires-clause-counted
 look-behind-at-requires-clause-counted t c =
-    let o = c.args.self.now in
-    let w = over o.node.now o.number _ _ _ _ _ _ c.children-row.ensures c.index-row-at.is c.loop-at-test.true c.loop-at.invariant.passed in
+    let w = over c.args.self.now.node.now c.args.self.now.number _ _ _ _ _ _ c.children-row.ensures c.index-row-at.is c.loop-at-test.true c.loop-at.invariant.passed in
     omega (arith, w.fits, c.requires.counted)
 
 pub look-loop-at-preserved-then-at-least : goal.look-loop-at-preserved-then-at-least
 look-loop-at-preserved-then-at-least t c =
-    let p = wanted c.args.search.now in
-    let o = c.args.self.now in
-    let w = over o.node.now o.number _ _ _ _ _ _ c.children-row.ensures c.index-row-at.is c.loop-at-test.true c.loop-at.invariant.passed in
+    let w = over c.args.self.now.node.now c.args.self.now.number _ _ _ _ _ _ c.children-row.ensures c.index-row-at.is c.loop-at-test.true c.loop-at.invariant.passed in
     grind (arith, common_steps, from_on, from_less, from_below)
 
 pub look-passes_over-requires : goal.look-passes_over-requires
 look-passes_over-requires t c =
-    let o = c.args.self.now in
-    let w = over o.node.now o.number _ _ _ _ _ _ c.children-row.ensures c.index-row-at.is c.loop-at-test.true c.loop-at.invariant.passed in
+    let w = over c.args.self.now.node.now c.args.self.now.number _ _ _ _ _ _ c.children-row.ensures c.index-row-at.is c.loop-at-test.true c.loop-at.invariant.passed in
     omega (arith, w.fits, c.requires.counted, c.tree.ensures.number)
 
 pub look-loop-at-preserved-then-passes_over : goal.look-loop-at-preserved-then-passes_over
@@ -146,9 +131,7 @@ look-loop-at-preserved-then-passes_over t c =
 
 pub look-returns-then-descendants-heavy : goal.look-returns-then-descendants-heavy
 look-returns-then-descendants-heavy t c =
-    let p = wanted c.args.search.now in
-    let o = c.args.self.now in
-    let w = over o.node.now o.number _ _ _ _ _ _ c.children-row.ensures c.index-row-at.is c.loop-at-test.true c.loop-at.invariant.passed in
+    let w = over c.args.self.now.node.now c.args.self.now.number _ _ _ _ _ _ c.children-row.ensures c.index-row-at.is c.loop-at-test.true c.loop-at.invariant.passed in
     grind (arith, common_steps, from_less)
 
 pub look-first_from-requires : goal.look-first_from-requires

@@ -1,8 +1,4 @@
-use Rattle.std.proofs.Common.{◌+◌, ◌*◌, ◌-◌, ◌<◌, ◌≤◌, length}
-use Rattle.typst_tree.specs.Tree.{nodes, saturated}
-use Rattle.typst_tree.specs.Looked.{IsIn, FoundFrom}
-use Rattle.typst_tree.specs.Passed.{IsPassed}
-use Rattle.typst_tree.specs.Wanted.{wanted}
+use Rattle.typst_tree.proofs.Cited.{◌+◌, ◌*◌, ◌-◌, ◌<◌, ◌≤◌, length, nodes, saturated, IsIn, FoundFrom, IsPassed, wanted}
 use Rattle.typst_tree.proofs.search.Spot.+first_from.Given as goal
 
 abbrev pub decreases-first_from : goal.decreases-first_from

@@ -1,19 +1,12 @@
-use Rattle.std.proofs.lemmas.Grind.{common_steps}
-use Rattle.std.proofs.Common.{◌≡◌, ℕ, ◌+◌, Some, ap, sym, ◌∙◌, arith, drop, None}
-use Rattle.typst_tree.specs.Tree.{forest, nodes, places, preorder}
-use Rattle.typst_tree.specs.Walks.{first_at}
-use Rattle.typst_tree.specs.Wanted.{wanted}
+use Rattle.typst_tree.proofs.Cited.{◌≡◌, ℕ, ◌+◌, Some, ap, sym, ◌∙◌, arith, drop, None, forest, nodes, places, preorder, first_at, wanted}
 use Rattle.typst_tree.proofs.Parents.{child_bounds}
 use Rattle.typst_tree.proofs.Rows.{Over, over, passed_none}
-use Rattle.typst_tree.proofs.WalksInPreorder.{found_self, within_self, within_in, found_below, found_here, found_next, turn}
+use Rattle.typst_tree.proofs.WalksInPreorder.{within_self, within_in, found_below, found_here, found_next, turn}
 use Rattle.typst_tree.proofs.search.Spot.+goes_to.Goals as goal
 use Rattle.typst_tree.proofs.search.Spot.+goes_to.Goals.{After-index-row-at, then-not-passes_over+else-goes_to, else-not-passes_over}
 
 pub returns-then-wants-clause-spot : goal.returns-then-wants-clause-spot
 returns-then-wants-clause-spot t c = grind (arith, within_self)
-
-pub returns-then-wants-clause-first : goal.returns-then-wants-clause-first
-returns-then-wants-clause-first t c = grind (arith, found_self)
 
 pub loop-at-init : goal.loop-at-init
 loop-at-init t c = grind (arith, found_below, passed_none)
@@ -34,13 +27,12 @@ goes_to-requires t c =
 pub returns-then-goes_to-clause-first : goal.returns-then-goes_to-clause-first
 returns-then-goes_to-clause-first t c = λ _.
     let at = c.loop-at.at in
-    let row = c.children-row.result.now in
-    let w = turn row at.index c.index-row-at.result c.index-row-at.is c.loop-at-test.true in
+    let w = turn _ at.index c.index-row-at.result c.index-row-at.is c.loop-at-test.true in
     let found : first_at (wanted c.args.search.now) at.number at.offset (places c.index-row-at.result) ≡ Some c.goes_to.new.self.number =
     rw (sym c.tree.ensures.number, sym c.tree.ensures.offset, sym c.tree.ensures.node) (c.goes_to.ensures.first c.if-goes_to.true) in
     c.loop-at.invariant.found
     ∙ (ap (λ ys. first_at (wanted c.args.search.now) at.number at.offset (preorder (forest ys))) w.first
-    ∙ sym (found_here (wanted c.args.search.now) at.number at.offset _ c.index-row-at.result (drop (at.index + 1) row) (sym found)))
+    ∙ sym (found_here (wanted c.args.search.now) at.number at.offset _ c.index-row-at.result (drop (at.index + 1) _) (sym found)))
 
 pub returns-then-goes_to-clause-spot : goal.returns-then-goes_to-clause-spot
 returns-then-goes_to-clause-spot t c = λ _.
@@ -68,6 +60,3 @@ loop-at-preserved t c =
           ∙ ap (λ i. first_at (wanted c.args.search.now) next.result.number next.result.offset (preorder (forest (drop i row)))) (sym next.ensures.index)));
       passed = rw (next.ensures.index, next.ensures.number, next.ensures.offset) (here t (goal.at.loop-at-preserved t c).After-index-row-at).next;
     }
-
-pub returns-clause-none : goal.returns-clause-none
-returns-clause-none t c = grind (arith, common_steps)

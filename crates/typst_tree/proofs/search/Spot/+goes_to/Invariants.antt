@@ -1,8 +1,4 @@
-use Rattle.std.proofs.Common.{◌≡◌, ◌+◌, ◌-◌, length, drop}
-use Rattle.typst_tree.specs.Tree.{forest, nodes, places, preorder, saturated}
-use Rattle.typst_tree.specs.Passed.{IsPassed}
-use Rattle.typst_tree.specs.Walks.{first_at}
-use Rattle.typst_tree.specs.Wanted.{wanted}
+use Rattle.typst_tree.proofs.Cited.{◌≡◌, ◌+◌, ◌-◌, length, drop, forest, nodes, places, preorder, saturated, IsPassed, first_at, wanted}
 use Rattle.typst_tree.proofs.search.Spot.+goes_to.Given as goal
 
 abbrev pub decreases-goes_to : goal.decreases-goes_to

@@ -1,6 +1,4 @@
-use Rattle.std.proofs.Common.{◌+◌, ◌<◌}
-use Rattle.typst_tree.specs.Tree.{nodes}
-use Rattle.typst_tree.specs.Looked.{IsIn}
+use Rattle.typst_tree.proofs.Cited.{◌+◌, ◌<◌, nodes, IsIn}
 use Rattle.typst_tree.proofs.search.Spot.towards.Given as goal
 
 abbrev pub invariant-loop : goal.invariant-loop

@@ -1,6 +1,0 @@
-use Rattle.std.proofs.Common.{arith}
-use Rattle.std.proofs.lemmas.Grind.{common_steps}
-use Rattle.typst_tree.proofs.node.SyntaxNode.+clone_small.Goals as goal
-
-pub loop-kid-preserved : goal.loop-kid-preserved
-loop-kid-preserved c = grind (arith, common_steps)

@@ -1,5 +1,0 @@
-use Rattle.std.proofs.Common.{rules}
-use Rattle.typst_tree.proofs.node.SyntaxNode.leaf.Goals as goal
-
-pub returns : goal.returns
-returns c = search rules
