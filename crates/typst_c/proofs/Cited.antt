@@ -1,5 +1,5 @@
 -- The names that many of these proofs cite, passed on from one place. Declares nothing.
-pub use Rattle.std.proofs.Common.{IfNone, IfSome, List, None, Option, Some, ap, arith, if◌then◌else◌, length, refl, subst, sym, take, ℕ, ◌+◌, ◌<◌, ◌==◌, ◌^◌, ◌∙◌, ◌≡◌, ◌≤◌}
+pub use Rattle.std.proofs.Common.{IfNone, List, None, Option, Some, ap, arith, if◌then◌else◌, length, refl, subst, sym, take, ℕ, ◌+◌, ◌<◌, ◌==◌, ◌^◌, ◌∙◌, ◌≡◌, ◌≤◌}
 pub use Rattle.std.proofs.alloc.Calls.{Goes-blank, handle_tells, token}
 pub use Rattle.std.proofs.lemmas.Option.{none-some, same_Some}
 pub use Rattle.std.specs.Str.{IsCharBoundary, IsUtf8, chars}
@@ -33,7 +33,7 @@ pub use prog.Wp.{Tables, WpFn}
 pub use seplogic.Ra.Ura.{Ura}
 pub use sound.WpLaws.{WpFn-mono, fm_of}
 pub use types.ByLocal.{alloc_all, env, free_all, get, get_in, lands_as, lands_last, look_at, pass_all, sets}
-pub use types.Kit.{!, Item, at_ret, await, by, done, drop, feq_i, feq_l, fjoin, fpick, fsplit, join, later, move, pick, qed, raw, rewrite, some, split, split3, suffices, use1, ‵, ◌$◌, ◌∵◌, ◌⊛◌}
+pub use types.Kit.{ !, Item, at_ret, await, by, done, drop, feq_i, feq_l, fjoin, fpick, fsplit, join, later, move, pick, qed, raw, rewrite, some, split, split3, suffices, use1, ‵, ◌$◌, ◌∵◌, ◌⊛◌}
 pub use types.Logic.{Logic, sem}
 pub use types.Part.{agg, sub, whole}
 pub use types.Run.{and_then, blocks, enter, exec, first, fld, no_more, of_opd, returns, stop}

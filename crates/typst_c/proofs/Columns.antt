@@ -1,5 +1,5 @@
 -- Where no byte stands at a column of a line.
-use Rattle.typst_c.proofs.Cited.{◌≡◌, ℕ, ◌+◌, ◌<◌, ◌≤◌, ◌^◌, List, length, take, Option, None, Some, IfNone, IfSome, ap, sym, ◌∙◌, arith, same_Some, IsUtf8, IsCharBoundary, chars, byte_at_utf16, line_range, utf16_before, units_before, IsAtUnits}
+use Rattle.typst_c.proofs.Cited.{◌≡◌, ℕ, ◌+◌, ◌<◌, ◌≤◌, ◌^◌, List, length, take, Option, None, Some, IfNone, ap, sym, ◌∙◌, arith, same_Some, IsUtf8, IsCharBoundary, chars, byte_at_utf16, line_range, utf16_before, units_before, IsAtUnits}
 use Rattle.std.specs.declared.ops.Range.{Range}
 use Rattle.typst_lines.proofs.LineTable.{units-le, bytes-front}
 use Rattle.typst_lines.proofs.RoundTrip.{back-from_utf16}
@@ -23,8 +23,3 @@ module _ (text : List ℕ) (line column byte : ℕ) (h : IsAtUnits text line col
 pub none_at : (text : List ℕ) (line column : ℕ) (r : Option ℕ) → ((b : ℕ) → IsAtUnits text line column b → ⊥) → IfNone r ((b : ℕ) → IsAtUnits text line column b → ⊥)
 none_at text line column None h = h
 none_at text line column (Some b) h = tt
-
--- what is found is what is looked for, or nothing is
-pub same_found : (o r : Option ℕ) → r ≡ o → IfSome r (λ b. o ≡ Some b)
-same_found o None e = tt
-same_found o (Some b) e = sym e

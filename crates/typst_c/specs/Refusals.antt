@@ -112,7 +112,7 @@ RefusesByte code text line column refusal.BadArgument = (m : Measure) → measur
 RefusesByte code text line column refusal.SpanNumbers = ⊥
 RefusesByte code text line column refusal.TooLarge = ⊥
 
--- why no records of a tree are told
+-- why no records of a tree are given
 abbrev pub RefusesRecords : Tree → Refusal → Type 0
 RefusesRecords root refusal.NoMemory = Unit {0}
 RefusesRecords root refusal.NotUtf8 = ⊥

@@ -21,7 +21,7 @@ tree_as mode text =
 abbrev pub range_with : {C : Type 0} → Held C → ℕ → Option (Range ℕ)
 range_with s bits = option_and_then (bytes_in None) (found s.id (span_of bits) s.root)
 
--- bytes that are told, or 0 where there are none
+-- bytes that are given where they are found, and 1, or 0 where there are none
 abbrev pub IsTold : Option (Range ℕ) → ℕ → Stretch → Stretch → Type 0
 IsTold None found old new = (found ≡ 0) × (new ≡ old)
 IsTold (Some range) found old new = (found ≡ 1) × ((new.start ≡ range.start) × (new.end ≡ range.end))

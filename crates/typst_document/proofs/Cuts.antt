@@ -1,10 +1,11 @@
 -- Texts that are cut out of others.
-use Rattle.typst_document.proofs.Cited.{◌≡◌, ℕ, ◌+◌, ◌-◌, ◌≤◌, List, [], ◌∷◌, ◌++◌, length, take, drop, get_or, Option, refl, ap, sym, subst, ◌∙◌, arith, append_assoc, slice_range, IsCharBoundary, IsUtf8, chars, Range, IsCharBoundary-from_drop, IsCharBoundary-start, IsUtf8-drop, IsUtf8-past_char, encodes-chars, IsTextAt}
+use Rattle.typst_document.proofs.Cited.{◌≡◌, ℕ, ◌+◌, ◌-◌, ◌≤◌, List, [], ◌∷◌, ◌++◌, length, drop, get_or, Option, refl, ap, sym, subst, ◌∙◌, arith, append_assoc, slice_range, IsCharBoundary, IsUtf8, chars, Range, IsCharBoundary-from_drop, IsCharBoundary-start, IsUtf8-drop, IsUtf8-past_char, encodes-chars, IsTextAt}
 use Rattle.std.specs.Borrow.{Bor}
 use Rattle.std.specs.Option.{unwrap_or}
 use Rattle.std.specs.Str.Pattern.{GetsRange}
 use Rattle.std.proofs.Math.Utf8.{encode, encodes}
-use Rattle.std.proofs.lemmas.List.{drop-drop, get_or-drop, take-append-drop}
+use Rattle.std.proofs.lemmas.List.{get_or-drop}
+use Rattle.std.proofs.lemmas.List.Folds.{drop_split}
 
 -- what follows characters is text again
 past_chars : (cs bs rest : List ℕ) → IsUtf8 bs → bs ≡ encodes cs ++ rest → IsUtf8 rest
@@ -13,11 +14,6 @@ past_chars (c ∷ cs) bs rest u e = past_chars cs (encodes cs ++ rest) rest (IsU
 
 past_text : (xs bs rest : List ℕ) → IsUtf8 xs → IsUtf8 bs → bs ≡ xs ++ rest → IsUtf8 rest
 past_text xs bs rest ux ub e = past_chars (chars xs) bs rest ub (e ∙ ap (λ ys. ys ++ rest) (sym (encodes-chars xs ux)))
-
--- the bytes from i to j of a text are followed by those from j on
-cut_out : (s : List ℕ) (i j : ℕ) → i ≤ j → drop i s ≡ slice_range s i j ++ drop j s
-cut_out s i j ordered =
-    sym (take-append-drop (j - i) (drop i s)) ∙ ap (λ ys. take (j - i) (drop i s) ++ ys) (drop-drop (j - i) i s ∙ ap (λ n. drop n s) (omega arith))
 
 -- where text begins in a text a character does
 begins : (s rest : List ℕ) (i x : ℕ) (xs : List ℕ) → i ≤ length s → IsUtf8 (x ∷ xs) → drop i s ≡ (x ∷ xs) ++ rest → IsCharBoundary s i
@@ -29,7 +25,7 @@ begins s rest i x xs within u e =
 between_chars : (s xs : List ℕ) (i j : ℕ) → IsUtf8 s → IsUtf8 xs → xs ≡ slice_range s i j → length xs + i ≡ j → j ≤ length s → (IsCharBoundary s i → ¬ (IsCharBoundary s j)) → xs ≡ []
 between_chars s [] i j us ux is ends within out = refl
 between_chars s (x ∷ xs) i j us ux is ends within out =
-    let split : drop i s ≡ (x ∷ xs) ++ drop j s = cut_out s i j (omega arith) ∙ ap (λ ys. ys ++ drop j s) (sym is) in
+    let split : drop i s ≡ (x ∷ xs) ++ drop j s = drop_split s i j (omega arith) ∙ ap (λ ys. ys ++ drop j s) (sym is) in
     let start : IsCharBoundary s i = begins s (drop j s) i x xs (omega arith) ux split in
     absurd (out start (IsCharBoundary-from_drop s j within (past_text (x ∷ xs) (drop i s) (drop j s) ux (IsUtf8-drop s i us start) split)))
 

@@ -148,7 +148,7 @@ impl<'a> Model for Extents<'a> {
 }
 
 impl<'a> Extents<'a> {
-    /// Those of a document.
+    /// The extents of a document.
     pub fn new(document: &'a Document) -> Extents<'a>
         ensures { result ≡ document.now }
     {

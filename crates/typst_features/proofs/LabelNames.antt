@@ -1,8 +1,5 @@
 -- Names without their marks.
-use Rattle.typst_features.proofs.Cited.{◌≡◌, ◌≢◌, ◌==◌, ℕ, Bool, true, List, [], ◌∷◌, ◌++◌, reverse, Option, Some, None, option_map, refl, ap, sym, ◌∙◌, if◌then◌else◌, arith, MatchOption, reverse-append, reverse-reverse, without_first, without_last, Bor, eq-eqb}
-
-at_first : (c : ℕ) (rest : List ℕ) → without_first c (c ∷ rest) ≡ Some rest
-at_first c rest = let same : (c == c) ≡ true = eq-eqb c c refl in ap (λ (v : Bool). if v then Some rest else None) same
+use Rattle.typst_features.proofs.Cited.{◌≡◌, ◌≢◌, ℕ, List, [], ◌∷◌, ◌++◌, reverse, Option, Some, None, option_map, ap, sym, ◌∙◌, arith, MatchOption, reverse-append, reverse-reverse, without_first, without_last, Bor}
 
 first_is : (c : ℕ) (bs : List ℕ) (r : Option (List ℕ)) → MatchOption r ((rest : List ℕ) → bs ≢ (c ∷ rest)) (λ x. bs ≡ c ∷ x) → r ≡ without_first c bs
 first_is c bs r h = grind arith

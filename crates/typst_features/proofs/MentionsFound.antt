@@ -1,5 +1,5 @@
 -- The mentions of a name, row by row.
-use Rattle.typst_features.proofs.Cited.{◌≡◌, ℕ, ◌+◌, Bool, true, false, List, [], ◌∷◌, ◌++◌, length, filter, Option, None, Some, option_map, option_to_list, refl, ap, sym, ◌∙◌, arith, append_assoc, append-nil, if◌then◌else◌, map, map-append, Tree, forest, Mentioned, is_of, mentioned, of_name, row, Mention}
+use Rattle.typst_features.proofs.Cited.{◌≡◌, ℕ, ◌+◌, Bool, true, false, List, [], ◌∷◌, ◌++◌, length, filter, Option, Some, option_map, option_to_list, refl, ap, sym, ◌∙◌, arith, append_assoc, append-nil, if◌then◌else◌, map, map-append, Tree, forest, Mentioned, is_of, mentioned, of_name, row, Mention}
 use Rattle.std.proofs.lemmas.List.Elements.{filter-append}
 use Rattle.typst_features.specs.LabelRows.{left, left_all, steps_all, steps_left}
 use Rattle.typst_features.specs.declared.naming.MentionKind.{MentionKind}
@@ -35,9 +35,6 @@ added n old new o m is named pushed = grind (arith, map-append)
 
 pub passed_over : (n : List ℕ) (old : List Mention) (o : Option Mentioned) (m : Mention) → Some (mentioned m) ≡ o → is_of n (mentioned m) ≡ false → map mentioned old ≡ map mentioned old ++ of_name n (option_to_list o)
 passed_over n old o m is differs = grind (arith, append-nil)
-
-pub none_added : (n : List ℕ) (old : List Mention) (o : Option Mentioned) → None ≡ o → map mentioned old ≡ map mentioned old ++ of_name n (option_to_list o)
-none_added n old o is = sym (ap (λ p. map mentioned old ++ of_name n (option_to_list p)) (sym is) ∙ append-nil (map mentioned old))
 
 -- a node's own mention and the rows below and after it are what its row has
 pub joined : (n : List ℕ) (mine below rest all found : List Mentioned) → (found ++ of_name n mine) ++ of_name n (below ++ (rest ++ all)) ≡ found ++ of_name n ((mine ++ (below ++ rest)) ++ all)

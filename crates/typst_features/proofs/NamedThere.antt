@@ -1,5 +1,5 @@
 -- What is named at a byte, by what was found.
-use Rattle.typst_features.proofs.Cited.{◌≡◌, ℕ, List, [], ◌∷◌, Option, None, Some, option_map, refl, ap, ◌∙◌, slice_get, arith, map, Mentioned, mentioned, bound_known, name_known, occurrence, Mention, Bor}
+use Rattle.typst_features.proofs.Cited.{◌≡◌, ℕ, List, [], ◌∷◌, Option, Some, option_map, refl, ap, ◌∙◌, slice_get, arith, map, Mentioned, mentioned, bound_known, name_known, occurrence, Mention, Bor}
 use Rattle.std.specs.Slice.{IsItemAt}
 use Rattle.std.proofs.lemmas.Option.{slice_get-get_or, slice_get_past}
 use Rattle.typst_names.specs.Meanings.{binding_of, name_at}
@@ -17,10 +17,6 @@ occurred found ms e = by_each found ∙ ap (map occurrence) e
 pub lent : (ns : List Name) (i : ℕ) (r : Option (Bor Name)) → IsItemAt ns i r → option_map (λ n. n.now) r ≡ slice_get ns i
 lent ns i r h = grind (arith, slice_get_past, slice_get-get_or)
 
--- no name stands there
-pub unnamed : (text : List ℕ) (ns all : List Name) (b : ℕ) → ns ≡ all → None ≡ name_at ns b → None ≡ name_known text all (name_at all b)
-unnamed text ns all b same none = ap (name_known text ns) none ∙ ap (λ xs. name_known text xs (name_at xs b)) same
-
--- one does
+-- a name stands there
 pub named : (text : List ℕ) (ns all : List Name) (b i : ℕ) → ns ≡ all → Some i ≡ name_at ns b → bound_known text ns (slice_get ns i) (binding_of text ns i) ≡ name_known text all (name_at all b)
 named text ns all b i same is = ap (name_known text ns) is ∙ ap (λ xs. name_known text xs (name_at xs b)) same

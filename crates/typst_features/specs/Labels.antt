@@ -97,14 +97,15 @@ if_ends b m = if m.range.end == b then Some m else None
 abbrev pub mention_at : Tree → ℕ → Option Mentioned
 mention_at t b = option_or (holding b (mentions t)) (option_and_then (if_ends b) (holding (b - 1) (mentions t)))
 
--- those of a name
+-- a mention has a name
 abbrev pub is_of : List ℕ → Mentioned → Bool
 is_of name m = bytes_eq m.name name
 
+-- the mentions that have a name
 abbrev pub of_name : List ℕ → List Mentioned → List Mentioned
 of_name name ms = filter (is_of name) ms
 
--- those of the name of one of them, if there is one
+-- the mentions that have the name of a given one, or none where none is given
 abbrev pub alike : List Mentioned → Option Mentioned → List Mentioned
 alike ms None = []
 alike ms (Some m) = of_name m.name ms

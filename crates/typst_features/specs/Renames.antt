@@ -44,7 +44,7 @@ bound_known text ns (Some n) (Some binding) = Some (record { range = n.range; oc
 bound_known text ns (Some n) None = None
 bound_known text ns None binding = None
 
--- the same of a place among some names, if there is one
+-- a name by its index among some names, with its binding and the uses; none if it has no index
 abbrev pub name_known : List ℕ → List Name → Option ℕ → Option Known
 name_known text ns None = None
 name_known text ns (Some i) = bound_known text ns (slice_get ns i) (binding_of text ns i)

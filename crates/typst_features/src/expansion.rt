@@ -100,7 +100,7 @@ struct Parts {
 }
 
 impl Parts {
-    /// Those of a row that nothing of was passed.
+    /// The parts of a row of which nothing was passed.
     fn new(alloc: Global) -> Parts {
         Parts {
             held: None,

@@ -1,6 +1,7 @@
 -- The nodes that hold a byte, each a child of the one before it.
-use Rattle.typst_fixes.proofs.Cited.{◌≡◌, ℕ, Bool, true, false, List, [], ◌∷◌, length, Option, None, Some, refl, ap, sym, ◌∙◌, if◌then◌else◌, Forest, none, more, Tree, forest, trees, Standing, kid_at, path, within, inner, behind, range}
+use Rattle.typst_fixes.proofs.Cited.{◌≡◌, ℕ, true, false, List, [], ◌∷◌, Option, None, Some, refl, ap, sym, ◌∙◌, if◌then◌else◌, Forest, none, more, Tree, forest, trees, Standing, kid_at, path, within, inner, behind, range}
 use Rattle.typst_names.specs.Selections.{holds}
+use Rattle.typst_tree.proofs.SpansAside.{trees_forest}
 
 -- a node, if there is one, and those within it that hold byte b
 abbrev pub way : ℕ → Option Standing → List Standing
@@ -20,10 +21,6 @@ way_of b a (more h ks r) =
 pub goes_on : (b : ℕ) (n : Standing) (kid : Option Standing) → kid ≡ kid_at b (inner n.start n.node.head) n.node.kids → way b kid ≡ within b n
 goes_on b n kid is = ap (way b) is ∙ sym (way_of b (inner n.start n.node.head) n.node.kids)
 
-trees_of : (ts : List Tree) → trees (forest ts) ≡ ts
-trees_of [] = refl
-trees_of (t ∷ ts) = ap (λ us. t ∷ us) (trees_of ts)
-
 -- the trees of a node's children
 pub children : (ts : List Tree) (f : Forest) → forest ts ≡ f → ts ≡ trees f
-children ts f is = sym (trees_of ts) ∙ ap trees is
+children ts f is = sym (trees_forest ts) ∙ ap trees is

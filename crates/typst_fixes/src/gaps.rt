@@ -11,7 +11,7 @@ use typst_kinds::SyntaxKind;
 use typst_names::Placed;
 use typst_tree::SyntaxNode;
 
-/// So many spaces and comments are passed at most to find a place for a closing delimiter: each is sought from the
+/// How many spaces and comments are passed at most to find a place for a closing delimiter: each is sought from the
 /// front of its row.
 const MOST_TRIVIA: usize = 16;
 

@@ -1,12 +1,12 @@
 -- The names that many of these proofs cite, passed on from one place. Declares nothing.
-pub use Rattle.std.proofs.Common.{Bool, List, None, Option, Some, [], ap, append-nil, append_assoc, arith, cond, drop, false, get_or, inl, inr, length, length-append, length-take, map, not, refl, set, slice_get, slice_index_or, subst, suc, sym, take, true, zero, ℕ, ◌&&◌, ◌++◌, ◌+◌, ◌-◌, ◌<◌, ◌^◌, ◌||◌, ◌∙◌, ◌∷◌, ◌≡◌, ◌≤◌}
+pub use Rattle.std.proofs.Common.{Bool, List, None, Option, Some, [], ap, append-nil, append_assoc, arith, cond, drop, false, get_or, inl, inr, length, length-append, length-take, map, refl, set, slice_get, slice_index_or, subst, suc, sym, take, true, zero, ℕ, ◌++◌, ◌+◌, ◌-◌, ◌<◌, ◌^◌, ◌∙◌, ◌∷◌, ◌≡◌, ◌≤◌}
 pub use Rattle.std.proofs.lemmas.Bool.Decides.{nat_tests}
 pub use Rattle.std.proofs.lemmas.List.{length-map, map-append, reverse-append, take-set, take_all, take_more, take_more_set}
 pub use Rattle.std.proofs.lemmas.List.Concat.{flat_map-append}
 pub use Rattle.std.specs.List.{filter, flat_map, range_with_len}
 pub use Rattle.std.specs.Prelude.{reverse, vec_len}
 pub use Rattle.typst_flat.specs.Codes.{cut, fixed_code, flags_of, tag_code}
-pub use Rattle.typst_flat.specs.Placed.{AreReady, Course, EndsIn, EndsWith, IsBehind, IsFilled, IsNarrow, IsPlaced, IsSmall, IsSought, Moves, Passes, RowFits, Stays, course, is_settled}
+pub use Rattle.typst_flat.specs.Placed.{AreReady, Course, EndsIn, IsBehind, IsFilled, IsNarrow, IsPlaced, IsSmall, IsSought, Moves, Passes, RowFits, Stays, course}
 pub use Rattle.typst_flat.specs.Records.{all_of, filled, meets, met_in, node_record, number_if, records, records_in}
 pub use Rattle.typst_flat.specs.Said.{IsWritten, Saying, diagnostic_of, end_in, hint_of, joined, remark_at, remarks_from, said_by, said_of, severity_code, start_in}
 pub use Rattle.typst_flat.specs.Walk.{Comes, IsAt, IsReady, RowStands, Takes, ahead, ahead_from, rows, up_number}
@@ -23,7 +23,7 @@ pub use Rattle.typst_highlight.specs.declared.progress.Waiting.{Waiting}
 pub use Rattle.typst_kinds.proofs.Places.{got, numbered}
 pub use Rattle.typst_kinds.specs.Diagnostic.{Diagnostic, Hint}
 pub use Rattle.typst_kinds.specs.Head.{Head}
-pub use Rattle.typst_kinds.specs.Kinds.{is_error, is_trivia}
+pub use Rattle.typst_kinds.specs.Kinds.{is_error}
 unfoldable pub use Rattle.typst_kinds.specs.Members.{place_of}
 pub use Rattle.typst_kinds.specs.declared.kind.SyntaxKind.{SyntaxKind}
 pub use Rattle.typst_tree.proofs.Boundaries.{kids_are, nodes_below}

@@ -33,7 +33,7 @@ first_left (suc n) [] x ys e = absurd (cc)
 first_left zero (z ∷ xs) x ys e = grind arith
 first_left (suc n) (z ∷ xs) x ys e = grind (arith, first_left n xs x ys e)
 
--- the same with the next number as a sum
+-- one element more is taken, with the next number as a sum
 pub taken_next : {A : Type 0} (n : ℕ) (xs : List A) (x : A) (ys : List A) → drop n xs ≡ x ∷ ys → take (n + 1) xs ≡ take n xs ++ x ∷ []
 taken_next n xs x ys e = let one : n + 1 ≡ suc n = omega arith in ap (λ k. take k xs) one ∙ (first_left n xs x ys e).before
 

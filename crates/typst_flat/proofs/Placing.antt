@@ -1,5 +1,5 @@
 -- The walk through the nodes of a tree with their tags, step by step.
-use Rattle.typst_flat.proofs.Cited.{◌≡◌, ℕ, zero, suc, ◌+◌, ◌-◌, ◌^◌, ◌<◌, ◌≤◌, true, false, ◌&&◌, not, List, [], ◌∷◌, ◌++◌, length, map, take, drop, Option, None, Some, refl, ap, sym, subst, ◌∙◌, arith, append_assoc, append-nil, length-append, filter, nat_tests, Head, SyntaxKind, IsBoundary, is_childless, is_leaf, At, at, kind_of, node_of, offset_of, end_of, prev_leaf, kids_are, length_places, numbers_from, Stand, here, below, behind, alone, parent_here, cut, tag_code, meets, number_if, ahead_from, up_number, AreReady, Course, EndsIn, IsBehind, IsPlaced, IsSought, Moves, Passes, RowFits, Stays, PlacedNode, Stretch, is_error, is_trivia, Waiting, is_dot, is_name}
+use Rattle.typst_flat.proofs.Cited.{◌≡◌, ℕ, zero, suc, ◌+◌, ◌-◌, ◌^◌, ◌<◌, ◌≤◌, true, false, List, [], ◌∷◌, ◌++◌, length, map, take, drop, Option, None, Some, refl, ap, sym, subst, ◌∙◌, arith, append_assoc, append-nil, length-append, filter, nat_tests, Head, SyntaxKind, IsBoundary, is_childless, is_leaf, At, at, kind_of, node_of, offset_of, end_of, prev_leaf, kids_are, length_places, numbers_from, Stand, here, below, behind, alone, parent_here, cut, tag_code, meets, number_if, ahead_from, up_number, AreReady, Course, EndsIn, IsBehind, IsPlaced, IsSought, Moves, Passes, RowFits, Stays, PlacedNode, Stretch, Waiting, is_dot, is_name}
 use Rattle.typst_tree.specs.Tree.{Forest, none, more, Tree, forest, count, joined as text_in, nodes, places, preorder, saturated, text_of, trees}
 use Rattle.typst_tree.specs.declared.boundary.Boundary.{Boundary}
 use Rattle.typst_tree.proofs.ReplacesChildren.{start_le}
@@ -14,6 +14,7 @@ use Rattle.typst_highlight.proofs.Nears.{Alike, Near, past_near, passed_near, sa
 use Rattle.typst_flat.proofs.Endings.{no_kids}
 use Rattle.typst_flat.proofs.Passed.{outside, passed_over}
 use Rattle.typst_flat.proofs.Steps.{up_of, within_nodes}
+use Rattle.typst_highlight.proofs.Returning.{no_leaf}
 
 -- ---- what is around the nodes of a row
 
@@ -113,10 +114,6 @@ stays_behind v w t r s e childless root near number up row around rows =
     (subst (λ m. AreReady v.root.now m (waiting v.progress)) total f.ready)
     (f.above ∙ sym up) root near next (ap forest row) around rows
 
--- at the first child of a node
-no_leaf : (t : Tree) → is_childless t.kids ≡ false → is_leaf t ≡ false
-no_leaf t e = ap (λ b. b && (not (is_trivia t.head.kind) && not (is_error t.head.kind))) e
-
 row_behind : (v : Course) (t : Tree) (r : List Tree) (x : Waiting) → Stays v → v.nodes.now ≡ t ∷ r → x.nodes.now ≡ r → x.start ≡ end (joined v.progress) t → x.level ≡ v.progress.level → x.parent ≡ v.parent → AreReady v.root.now (v.number + (1 + count t.kids)) (x ∷ waiting v.progress)
 row_behind v t r x s e row start level up =
     let f = first_of v t r s e in
@@ -171,14 +168,6 @@ stays_back v w x s e rows around above root near number row =
       near = record { parent = refl; outer = refl; offset = refl; trail = s.near.trail; ahead = ahead_ready v.root.now m (waiting w.progress) ready.1 };
     } in
     stays_at w v.root.now v.number (forest x.nodes.now) r.front r.back r.up (resumed x (waiting w.progress) v.progress.trail) (waiting w.progress) v.near s.counted s.boundary r.stands goes ready.1 (r.above ∙ sym above) root near number (ap forest row) around refl
-
-pub none_there : (xs : List Tree) → length xs ≡ 0 → xs ≡ []
-none_there [] e = refl
-none_there (x ∷ xs) e = absurd (omega (arith, e))
-
--- at the end all nodes were come to
-pub all_come : (v : Course) → Stays v → v.nodes.now ≡ [] → waiting v.progress ≡ [] → v.number ≡ nodes v.root.now
-all_come v s e rows = subst (λ ws. AreReady v.root.now v.number ws) rows (ended_row v s e)
 
 -- the root is first
 pub at_root : (w : Course) (root : Tree) (b : Boundary) → nodes root < 2 ^ 64 - 1 → IsBoundary root b → w.root.now ≡ root → w.near ≡ b → w.number ≡ 0 → w.parent ≡ 0 → w.nodes.now ≡ root ∷ [] → joined w.progress ≡ root_context → waiting w.progress ≡ [] → Stays w

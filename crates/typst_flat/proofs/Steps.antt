@@ -1,5 +1,5 @@
 -- The steps of a walk.
-use Rattle.typst_flat.proofs.Cited.{◌≡◌, ℕ, zero, suc, ◌+◌, ◌-◌, ◌^◌, ◌<◌, ◌≤◌, true, false, List, [], ◌∷◌, ◌++◌, length, take, map, Option, None, Some, refl, ap, sym, subst, ◌∙◌, arith, get_or, set, length-append, reverse, nat_tests, reverse-append, take_all, take_more, take_more_set, filter, Head, Forest, none, more, Tree, count, nodes, places, preorder, saturated, numbers, texts, At, at, node_of, offset_of, parent, children, left, length_places, length_preorder, tree_of, Stand, here, below, behind, alone, numbers_from, number_if, meets, RowStands, IsReady, IsAt, ahead_from, up_number, Stretch, Row}
+use Rattle.typst_flat.proofs.Cited.{◌≡◌, ℕ, zero, suc, ◌+◌, ◌-◌, ◌^◌, ◌<◌, ◌≤◌, true, false, List, [], ◌∷◌, ◌++◌, length, take, map, Option, None, Some, refl, ap, sym, subst, ◌∙◌, arith, get_or, set, length-append, reverse, reverse-append, take_all, take_more, take_more_set, filter, Head, Forest, none, more, Tree, count, nodes, places, preorder, saturated, numbers, texts, At, at, node_of, offset_of, parent, children, left, length_places, length_preorder, tree_of, Stand, here, below, behind, alone, numbers_from, number_if, meets, RowStands, IsReady, IsAt, ahead_from, up_number, Stretch, Row}
 use Rattle.std.proofs.Math.ListN.{length-set}
 use Rattle.std.specs.Option.{option_map}
 use Rattle.typst_flat.proofs.Passed.{outside, passed_over}
@@ -103,9 +103,6 @@ before_more (suc n) m [] h = omega arith
 before_more (suc n) zero (x ∷ xs) h = absurd (omega (arith, h))
 before_more (suc n) (suc m) (x ∷ xs) h =
     omega (arith, before_more n m xs (omega (arith, h)), length-append x.head.text (texts (take n xs)), length-append x.head.text (texts (take m xs)))
-
-behind_end : (s : Stretch) (a : At) → s.end < offset_of a → meets s a ≡ false
-behind_end s a h = grind (arith, nat_tests, h)
 
 -- from a node on that begins behind the stretch, none meets it
 pub beyond : (s : Stretch) (root : Tree) (n : ℕ) → s.end < offset_of (at root n) → ahead_from s root n ≡ []

@@ -137,7 +137,7 @@ pub record IsSmall (root : Tree) : Type 0 where
   pub bytes : length (text_of root) < 2 ^ 32
   pub nodes : nodes root < 2 ^ 32
 
--- so are those before a node
+-- the places of a node, its number and its nodes are counted in 32 bits
 pub record IsNarrow (g : PlacedNode) : Type 0 where
   pub start : g.start < 2 ^ 32
   pub end : g.end < 2 ^ 32

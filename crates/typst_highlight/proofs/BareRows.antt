@@ -1,13 +1,7 @@
 -- Tags don't depend on spans.
-use Rattle.typst_highlight.proofs.Cited.{◌≡◌, ℕ, ◌+◌, ◌++◌, length, Option, Some, refl, ap, ◌∙◌, cond, arith, Head, SyntaxKind, is_trivia, is_leaf, Tag, Rule, Ahead, Context, Trail, rule_of, end, first_ahead, first_leaf, found, name, next_kind, next_leaf, passed, passed_row, past, step, tag, tag_here, tree_of, within}
-use Rattle.typst_tree.specs.Tree.{Forest, none, more, Tree, bare, bare_forest, joined, saturated, text_of}
-
-pub bare_joined : (f : Forest) → joined (bare_forest f) ≡ joined f
-bare_joined none = refl
-bare_joined (more h ks r) = λ i. h.text ++ (bare_joined ks i ++ bare_joined r i)
-
-pub bare_text : (t : Tree) → text_of (bare t) ≡ text_of t
-bare_text t = ap (λ bs. t.head.text ++ bs) (bare_joined t.kids)
+use Rattle.typst_highlight.proofs.Cited.{◌≡◌, ℕ, ◌+◌, length, Option, Some, refl, ap, ◌∙◌, cond, arith, Head, SyntaxKind, is_trivia, is_leaf, Tag, Rule, Ahead, Context, Trail, rule_of, end, first_ahead, first_leaf, found, name, next_kind, next_leaf, passed, passed_row, past, step, tag, tag_here, tree_of, within}
+use Rattle.typst_tree.specs.Tree.{Forest, none, more, Tree, bare, bare_forest, saturated, text_of}
+use Rattle.typst_tree.proofs.ReplacesChildren.{text_bare}
 
 leaf_of : (h : Head) (ks : Forest) → is_leaf (bare (tree_of h ks)) ≡ is_leaf (tree_of h ks)
 leaf_of h ks = grind arith
@@ -22,7 +16,7 @@ bare_first p a (more h ks r) =
     let own : Option Ahead = Some (record { kind = h.kind; parent = p; offset = a }) in
     let inner : first_leaf (Some h.kind) (saturated (a + length h.text)) (bare_forest ks) ≡ first_leaf (Some h.kind) (saturated (a + length h.text)) ks = bare_first (Some h.kind) (saturated (a + length h.text)) ks in
     let later : first_leaf p (saturated (a + length (text_of (bare t)))) (bare_forest r) ≡ first_leaf p (saturated (a + length (text_of t))) r =
-    ap (λ bs. first_leaf p (saturated (a + length bs)) (bare_forest r)) (bare_text t) ∙ bare_first p (saturated (a + length (text_of t))) r in
+    ap (λ bs. first_leaf p (saturated (a + length bs)) (bare_forest r)) (text_bare t) ∙ bare_first p (saturated (a + length (text_of t))) r in
     λ i. cond (bare_leaf t i) own (first_ahead (inner i) (later i))
 
 bare_kind : (f : Forest) → next_kind (bare_forest f) ≡ next_kind f
@@ -30,7 +24,7 @@ bare_kind none = refl
 bare_kind (more h ks r) = ap (λ k. cond (is_trivia h.kind) k (Some h.kind)) (bare_kind r)
 
 bare_end : (c : Context) (t : Tree) → end c (bare t) ≡ end c t
-bare_end c t = ap (λ bs. saturated (c.offset + length bs)) (bare_text t)
+bare_end c t = ap (λ bs. saturated (c.offset + length bs)) (text_bare t)
 
 bare_next : (c : Context) (t : Tree) (r : Forest) → next_leaf c (bare t) (bare_forest r) ≡ next_leaf c t r
 bare_next c t r = grind (arith, bare_end, bare_first)

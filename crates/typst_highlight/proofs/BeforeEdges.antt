@@ -1,20 +1,11 @@
 -- What stands before an edge sees nothing of what follows it.
-use Rattle.typst_highlight.proofs.Cited.{◌≡◌, ℕ, ◌+◌, Bool, true, false, ◌&&◌, ◌||◌, not, List, [], ◌∷◌, ◌++◌, length, Option, None, Some, ap, sym, ◌∙◌, cond, arith, is_some, SyntaxKind, is_trivia, is_hash_expr, Forest, more, Tree, forest, saturated, text_of, is_leaf, Tag, Rule, Ahead, Context, is_name, is_dot, is_field_access, end, first_ahead, first_leaf, found, holds_leaf, name, next_kind, next_leaf, passed, past, tag, tag_here, within, is_plain, begins_plain, is_edge}
-use Rattle.typst_highlight.proofs.Cases.{and_first}
+use Rattle.typst_highlight.proofs.Cited.{◌≡◌, ℕ, ◌+◌, Bool, true, false, ◌||◌, List, [], ◌∷◌, ◌++◌, length, Option, None, Some, ap, sym, ◌∙◌, cond, arith, SyntaxKind, is_trivia, is_hash_expr, Forest, more, Tree, forest, saturated, text_of, is_leaf, Tag, Rule, Ahead, Context, is_name, is_dot, is_field_access, end, first_ahead, first_leaf, found, name, next_kind, next_leaf, passed, past, tag, tag_here, within, is_plain, begins_plain, is_edge}
+use Rattle.std.proofs.lemmas.Bool.{and_parts, not-true}
 
 -- ---- what is known of an edge
 
-and_second : (p q : Bool) → (p && q) ≡ true → q ≡ true
-and_second p q e = grind arith
-
-not_so : (p : Bool) → not p ≡ true → p ≡ false
-not_so p e = grind arith
-
 or_second : (p q : Bool) → (p || q) ≡ true → p ≡ false → q ≡ true
 or_second p q e n = grind arith
-
-or_from : (p q : Bool) → q ≡ true → (p || q) ≡ true
-or_from p q e = grind arith
 
 pub record IsEdge (t : Tree) : Type 0 where
   pub first : (is_plain t || begins_plain t.kids) ≡ true
@@ -22,7 +13,7 @@ pub record IsEdge (t : Tree) : Type 0 where
   pub expression : is_hash_expr t.head.kind ≡ false
 
 pub edge : (t : Tree) → is_edge t ≡ true → IsEdge t
-edge t e = grind (arith, and_second, and_first, not_so)
+edge t e = grind (arith, and_parts, not-true)
 
 pub record IsPlain (t : Tree) : Type 0 where
   pub leaf : is_leaf t ≡ true
@@ -40,14 +31,7 @@ no_access k e = grind arith
 pub first_plain : (t : Tree) → IsEdge t → is_plain t ≡ false → begins_plain t.kids ≡ true
 first_plain t w n = or_second (is_plain t) (begins_plain t.kids) w.first n
 
--- it holds a leaf
-holds : (t : Tree) → IsEdge t → is_leaf t ≡ false → holds_leaf t.kids ≡ true
-holds t w n = grind arith
-
 -- ---- what is seen behind a tree
-
-some_first : (l x y : Option Ahead) → is_some l ≡ true → first_ahead l x ≡ first_ahead l y
-some_first l x y e = grind arith
 
 -- the first leaf from an edge on
 first_edge : (p : Option SyntaxKind) (a : ℕ) (t : Tree) (q r : Forest) → IsEdge t → first_leaf p a (more t.head t.kids q) ≡ first_leaf p a (more t.head t.kids r)

@@ -1,8 +1,8 @@
 -- Steps lead to other numbers of the same tree.
 use Rattle.typst_highlight.proofs.Cited.{◌≡◌, ℕ, ◌+◌, ◌<◌, ◌≤◌, ◌==◌, Bool, true, false, ◌&&◌, List, [], ◌∷◌, length, map, Option, None, Some, refl, ap, sym, ◌∙◌, inl, inr, arith, cond, nat_lt, find, option_and_then, list_any, nat_tests, Forest, none, more, Tree, count, places, saturated, numbers, first_at, last_leaf, if_none, has_child, is_leaf, At, at, kind_of, parent, next_sibling, prev_leaf, leftmost_leaf, is_name, is_dot, access, named, name_before, earlier_name, leaf_of, expression_leaf}
-use Rattle.std.proofs.lemmas.Bool.{cases_eq}
+use Rattle.std.proofs.lemmas.Bool.{cases_eq, and_parts}
 use Rattle.std.proofs.lemmas.Option.{same_Some, none-some}
-use Rattle.typst_highlight.proofs.Cases.{and_first, bool_cases, cond_case, cond_some, then_some, map_some}
+use Rattle.typst_highlight.proofs.Cases.{bool_cases, cond_case, cond_some, then_some, map_some}
 
 abbrev pub member : ℕ → List ℕ → Bool
 member k ns = list_any (λ m. m == k) ns
@@ -86,7 +86,7 @@ find_sound q root (n ∷ ns) s e =
     (λ h f. find_sound q root ns s f)
 
 pub sibling_after : (a s : At) → next_sibling a ≡ Some s → (a.number < s.number) × (s.root ≡ a.root)
-sibling_after a s e = grind (arith, then_some, map_some, find_sound, and_first, nat_tests)
+sibling_after a s e = grind (arith, then_some, map_some, find_sound, and_parts, nat_tests)
 
 pub leaf_after : (s b : At) → leftmost_leaf s ≡ Some b → (s.number ≤ b.number) × (b.root ≡ s.root)
 leaf_after s b e = grind (arith, map_some, first_within)

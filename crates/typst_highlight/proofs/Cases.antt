@@ -1,8 +1,5 @@
 -- Cases of options and tests.
-use Rattle.typst_highlight.proofs.Cited.{◌≡◌, Bool, true, false, ◌&&◌, cond, Option, None, Some, arith, option_and_then, option_map}
-
-pub and_first : (p q : Bool) → (p && q) ≡ true → p ≡ true
-and_first p q e = grind arith
+use Rattle.typst_highlight.proofs.Cited.{◌≡◌, Bool, true, false, cond, Option, None, Some, arith, option_and_then, option_map}
 
 pub bool_cases : (b : Bool) → {P : Type 0} → (b ≡ true → P) → (b ≡ false → P) → P
 bool_cases b f g = grind arith

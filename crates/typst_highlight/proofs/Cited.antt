@@ -13,7 +13,7 @@ pub use Rattle.typst_highlight.specs.Edges.{begins_plain, is_edge, is_plain}
 pub use Rattle.typst_highlight.specs.Html.{escaped, escaped_byte, html_of, opening, plain, read, row_html, span_end, span_start, spanned}
 pub use Rattle.typst_highlight.specs.Names.{first_tag, is_called, kind_ahead, name_alone}
 pub use Rattle.typst_highlight.specs.Nodes.{access, described, earlier_name, expression_leaf, from_or, kind_before, kind_if, leaf_of, name_before, name_tag, named, outermost, surroundings, tag_by, tag_of, tag_within}
-pub use Rattle.typst_highlight.specs.Rules.{equals_tag, is_colon, is_dot, is_field_access, is_hash, is_math_name, is_name, is_show_rule, paren_tag, rule_of, slash_tag, star_tag, term_tag, underscore_tag}
+pub use Rattle.typst_highlight.specs.Rules.{equals_tag, is_dot, is_field_access, is_name, paren_tag, rule_of, slash_tag, star_tag, term_tag, underscore_tag}
 pub use Rattle.typst_highlight.specs.Stretches.{AreJoined, row_stretches, stretch, stretches}
 pub use Rattle.typst_highlight.specs.Walk.{Found, Marks, Outlet, ahead_of, around, behind_dot, end, expression_at, first_ahead, first_leaf, flat, forest_html, found, holds_leaf, html, if_found, is_followed, joined, lead, left, lister, name, next_kind, next_leaf, node_html, outer_around, outer_lead, outer_within, own, passed, passed_row, passed_rows, past, returned, returns, root_context, size, step, steps, tag, tag_at, tag_here, tag_under, tagger, tree_of, waiting, walked, walked_row, within}
 pub use Rattle.typst_highlight.specs.declared.context.Ahead.{Ahead}

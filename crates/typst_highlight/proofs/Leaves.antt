@@ -1,8 +1,9 @@
 -- The leaves round a node.
-use Rattle.typst_highlight.proofs.Cited.{◌≡◌, ℕ, ◌+◌, ◌<◌, ◌≤◌, Bool, true, false, List, [], ◌∷◌, ◌++◌, length, Option, None, Some, refl, ap, sym, ◌∙◌, arith, append_assoc, append-nil, length-append, cond, nat_le, nat_lt, option_and_then, option_map, nat_tests, SyntaxKind, Head, Forest, none, more, Tree, count, nodes, places, preorder, saturated, text_of, texts, first_at, if_none, last_leaf, is_leaf, is_leaf_from, texts_append, texts_places, none_between, Tag, Ahead, Trail, is_name, kind_if, described, name_tag, tree_of, first_ahead, first_leaf, last_append, last_none}
+use Rattle.typst_highlight.proofs.Cited.{◌≡◌, ℕ, ◌+◌, ◌<◌, ◌≤◌, Bool, true, false, List, [], ◌∷◌, ◌++◌, length, Option, None, Some, refl, ap, sym, ◌∙◌, arith, append_assoc, append-nil, length-append, cond, nat_le, option_and_then, option_map, nat_tests, SyntaxKind, Head, Forest, none, more, Tree, count, nodes, places, preorder, saturated, text_of, texts, first_at, if_none, last_leaf, is_leaf, is_leaf_from, texts_append, texts_places, none_between, Tag, Ahead, Trail, is_name, kind_if, described, name_tag, tree_of, first_ahead, first_leaf, last_append, last_none}
 use Rattle.typst_tree.specs.Steps.{At, at, kind_of, offset_of, prev_leaf, next_leaf}
 use Rattle.typst_highlight.proofs.Cases.{bool_cases}
 use Rattle.typst_highlight.proofs.Rows.{Stand, here, starts, below, behind, parent_here, at_once, at_later, found_behind}
+use Rattle.typst_tree.proofs.LastFrom.{last_all}
 
 -- the test of a leaf that counts
 abbrev pub any_leaf : ℕ → ℕ → Tree → Bool
@@ -102,13 +103,6 @@ first_law root k a (more h ks r) front back up p s e o =
 pub next_law : (root : Tree) (k : ℕ) (h : Head) (ks r : Forest) (front back : List Tree) (up : Option ℕ) → Stand root k (more h ks r) front back up → option_map described (next_leaf (at root k)) ≡ ahead_at root (k + (1 + count ks))
 next_law root k h ks r front back up s =
     ap (λ u. option_map described (option_map (at root) (first_at (is_leaf_from (k + nodes u)) 0 0 (places root)))) (here root k (tree_of h ks) front _ s.whole s.number)
-
-last_all : (b d n : ℕ) (xs : List Tree) → n + length xs ≤ b → n + length xs ≤ d → last_leaf b n xs ≡ last_leaf d n xs
-last_all b d n [] h l = refl
-last_all b d n (x ∷ xs) h l =
-    let one : nat_lt n b ≡ true = (let less : n < b = omega (arith, h) in grind (arith, nat_tests, less)) in
-    let two : nat_lt n d ≡ true = (let less : n < d = omega (arith, l) in grind (arith, nat_tests, less)) in
-    rw (one, two, last_all b d (n + 1) xs (omega (arith, h)) (omega (arith, l))) refl
 
 last_front : (root : Tree) (k : ℕ) (front rest : List Tree) → places root ≡ front ++ rest → k ≡ length front → last_leaf k 0 (places root) ≡ last_leaf k 0 front
 last_front root k front rest e n =

@@ -4,6 +4,7 @@ use Rattle.std.specs.Result.{IfOk}
 use Rattle.std.proofs.lemmas.Result.{IfOk-weaker}
 use Rattle.typst_highlight.specs.declared.rules.Rule.TheVariants as rule
 use Rattle.typst_highlight.proofs.Cases.{bool_cases}
+use Rattle.std.proofs.lemmas.Bool.{or_right}
 
 -- a name whose next leaf is known needs nothing of what follows it
 pub name_facing : (c : Context) (t : Tree) (r : Forest) (x : Option Ahead) → x ≡ next_leaf c t r → name (record c { ahead = x }) t none ≡ name c t r
@@ -46,15 +47,12 @@ step_held c t r x y e = grind (arith, cond, name_held)
 passed_held : (c : Context) (t : Tree) (r : Forest) (x y : Option Ahead) → holds_leaf r ≡ true → passed (facing x c) t r ≡ passed (facing y c) t r
 passed_held c t r x y e = grind (arith, cond, within_held, step_held)
 
-or_true : (a b : Bool) → b ≡ true → (a || b) ≡ true
-or_true a b e = grind arith
-
 followed_holds : (f : Forest) → is_followed f ≡ true → holds_leaf f ≡ true
 followed_holds none e = absurd (cc)
 followed_holds (more h ks r) e =
     let later : Bool → Bool = λ b. cond b (is_followed r) (holds_leaf r) in
     let held : holds_leaf r ≡ true = bool_cases (is_trivia h.kind) (λ is_so. followed_holds r (sym (ap later is_so) ∙ e)) (λ not_so. sym (ap later not_so) ∙ e) in
-    or_true (is_leaf (tree_of h ks)) (holds_leaf ks || holds_leaf r) (or_true (holds_leaf ks) (holds_leaf r) held)
+    or_right (is_leaf (tree_of h ks)) (holds_leaf ks || holds_leaf r) (or_right (holds_leaf ks) (holds_leaf r) held)
 
 -- the rule of a hash
 abbrev by_hash : Rule → Bool

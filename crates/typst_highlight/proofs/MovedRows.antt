@@ -1,5 +1,5 @@
 -- Trees at another place, where what is round them is the same: they have the same tags.
-use Rattle.typst_highlight.proofs.Cited.{◌≡◌, ℕ, ◌+◌, ◌-◌, ◌^◌, ◌≤◌, ◌==◌, Bool, true, false, ◌&&◌, ◌||◌, ◌++◌, length, Option, None, Some, refl, ap, arith, cond, length-append, Head, SyntaxKind, is_leaf, Tag, Rule, Ahead, Context, Trail, first_tag, is_called, kind_ahead, rule_of, is_field_access, is_math_name, is_show_rule, is_colon, is_hash, around, behind_dot, end, first_ahead, first_leaf, found, lead, name, next_leaf, outer_around, outer_lead, passed, passed_row, past, step, tag, tag_here, tree_of, within, Outer, is_plain, begins_plain}
+use Rattle.typst_highlight.proofs.Cited.{◌≡◌, ℕ, ◌+◌, ◌-◌, ◌^◌, ◌≤◌, ◌==◌, Bool, true, false, ◌++◌, length, Option, None, Some, refl, ap, arith, cond, length-append, Head, SyntaxKind, is_leaf, Tag, Rule, Ahead, Context, Trail, is_called, kind_ahead, rule_of, is_field_access, around, behind_dot, end, first_ahead, first_leaf, found, lead, name, next_leaf, outer_around, outer_lead, passed, passed_row, past, step, tag, tag_here, tree_of, within, Outer, is_plain, begins_plain}
 use Rattle.typst_tree.specs.Tree.{Forest, none, more, Tree, joined, saturated, text_of}
 use Rattle.typst_highlight.specs.declared.tags.Tag.TheVariants as tags
 use Rattle.typst_highlight.proofs.BeforeEdges.{IsEdge, IsPlain, first_plain, no_access, plain}
@@ -26,7 +26,7 @@ pub record Alike (s t : Trail) : Type 0 where
   pub same_name : t.name ≡ s.name
   pub same_dot : behind_dot t ≡ behind_dot s
 
--- the same round trees, moved, but for the last leaves
+-- what is round trees is the same, moved, except for the last leaves
 pub record MovedPlace (m n : ℕ) (c d : Context) : Type 0 where
   pub same_parent : d.parent ≡ c.parent
   pub same_outer : d.outer ≡ c.outer
@@ -103,15 +103,6 @@ around_same m n c d w = λ i. outer_around (w.same_outer i) (w.same_parent i)
 
 lead_same : (m n : ℕ) (c d : Context) → Moved m n c d → lead d ≡ lead c
 lead_same m n c d w = λ i. outer_lead (w.place.same_outer i) (w.trail.same_before i)
-
--- the tag of a name by what it sees
-abbrev seeing : SyntaxKind → Bool → Option SyntaxKind → Option SyntaxKind → Option SyntaxKind → Option SyntaxKind → Option Tag → Option Tag
-seeing k called next round led before dot =
-    first_tag
-    (cond called (Some tags.Function)
-    (cond (is_math_name k) (Some tags.Interpolated)
-    (cond (is_show_rule round && (is_colon next || is_colon before)) (Some tags.Function) (cond (is_hash led) (Some tags.Interpolated) None))))
-    dot
 
 pub moved_name : (m n : ℕ) (c d : Context) (t : Tree) (r : Forest) → Moved m n c d → Counted c d (more t.head t.kids r) → name d t r ≡ name c t r
 moved_name m n c d t r w b =

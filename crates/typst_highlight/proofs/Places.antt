@@ -1,5 +1,5 @@
 -- The leaf whose tag a hash has: the first one of trees, where those that hold no leaf are passed over.
-use Rattle.typst_highlight.proofs.Cited.{◌≡◌, ℕ, ◌+◌, ◌*◌, Bool, true, false, ◌||◌, Option, None, Some, refl, ap, sym, ◌∙◌, cond, arith, is_some, Forest, none, more, Tree, forest, count, is_leaf, Tag, Rule, Context, found, holds_leaf, if_found, own, passed, passed_row, past, step, tag, tag_here, tree_of, within, Row}
+use Rattle.typst_highlight.proofs.Cited.{◌≡◌, ℕ, ◌+◌, ◌*◌, Bool, true, false, ◌||◌, Option, None, Some, refl, ap, sym, ◌∙◌, cond, arith, is_some, Forest, none, more, Tree, forest, count, is_leaf, Tag, Context, found, holds_leaf, if_found, own, passed, passed_row, past, step, tag, tree_of, within, Row}
 use Rattle.typst_highlight.specs.declared.rules.Rule.TheVariants as rule
 
 neither : (x y : Option (Option Tag)) → if_found x y ≡ None → (x ≡ None) × (y ≡ None)
@@ -86,7 +86,3 @@ leaf_behind (Some b) = (found b.context (forest b.nodes.now)).leaf
 abbrev pub steps_behind : Option Row → ℕ
 steps_behind None = 0
 steps_behind (Some b) = 1 + 2 * count (forest b.nodes.now)
-
--- no other node asks for it
-pub needs_none : (u : Rule) (c : Context) (t : Tree) (r : Forest) (e : Option Tag) → (u ≡ rule.Expression → ⊥) → tag_here u c t r None ≡ tag_here u c t r e
-needs_none u c t r e h = grind arith

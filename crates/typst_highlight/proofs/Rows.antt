@@ -2,6 +2,7 @@
 use Rattle.typst_highlight.proofs.Cited.{◌≡◌, ℕ, ◌+◌, ◌<◌, ◌≤◌, ◌==◌, Bool, true, false, ◌&&◌, not, List, [], ◌∷◌, ◌++◌, length, map, Option, None, Some, refl, ap, ◌∙◌, arith, cond, append_assoc, append-nil, length-append, nat_lt, find, option_and_then, slice_get, unwrap_or, option_map, nat_tests, is_trivia, Head, Forest, none, more, Tree, count, places, preorder, saturated, texts, numbers, first_at, if_none, has_child, At, at, node_of, kind_of, start_of, parent, children, is_sibling_after, next_sibling, length_places, first_append, tree_of, next_kind, take-append_seam}
 use Rattle.typst_tree.proofs.PassesOver.{no_child_before, no_child_after}
 use Rattle.typst_highlight.proofs.Bounds.{member, member_from, member_until, not_before}
+use Rattle.typst_tree.proofs.NodesOfStretch.{get_seam}
 
 -- the next sibling of the node j under a parent
 abbrev pub sibling_under : Tree → Option ℕ → ℕ → Option At
@@ -19,10 +20,6 @@ pub record Stand (root : Tree) (k : ℕ) (f : Forest) (front back : List Tree) (
   pub parents : (j : ℕ) → member j (numbers k f) ≡ true → parent (at root j) ≡ option_map (at root) up
   pub siblings : (j : ℕ) → k ≤ j → sibling_under root up j ≡ sibling_among root j (numbers k f)
 
-get_seam : (front : List Tree) (t : Tree) (rest : List Tree) → slice_get (front ++ (t ∷ rest)) (length front) ≡ Some t
-get_seam [] t rest = refl
-get_seam (x ∷ front) t rest = get_seam front t rest
-
 -- the first of the trees
 pub here : (root : Tree) (k : ℕ) (t : Tree) (front rest : List Tree) → places root ≡ front ++ (t ∷ rest) → k ≡ length front → node_of (at root k) ≡ t
 here root k t front rest e n =
@@ -31,10 +28,6 @@ here root k t front rest e n =
 
 pub starts : (root : Tree) (k : ℕ) (front rest : List Tree) → places root ≡ front ++ rest → k ≡ length front → start_of (at root k) ≡ length (texts front)
 starts root k front rest e n = grind (arith, take-append_seam)
-
-any_offset : (j n a b : ℕ) (xs : List Tree) → first_at (has_child j) n a xs ≡ first_at (has_child j) n b xs
-any_offset j n a b [] = refl
-any_offset j n a b (x ∷ xs) = rw (any_offset j (n + 1) (a + length x.head.text) (b + length x.head.text) xs) refl
 
 -- a child of the node at k isn't among the trees of the row
 not_in_row : (j k : ℕ) (ks r : Forest) → k + 1 ≤ j → j < k + 1 + count ks → member j (k ∷ numbers (k + 1 + count ks) r) ≡ false

@@ -6,7 +6,7 @@ use Rattle.typst_highlight.specs.declared.tags.Tag.{Tag}
 use Rattle.typst_highlight.specs.Nodes.{tag_of}
 use Rattle.typst_highlight.specs.Html.{spanned}
 
--- so many numbers from n on
+-- a count of numbers, one after the other, from n on
 abbrev pub numbers_from : ℕ → ℕ → List ℕ
 numbers_from n zero = []
 numbers_from n (suc many) = n ∷ numbers_from (n + 1) many

@@ -1,5 +1,5 @@
 -- Each kind has its row at its place, and each place below the number of kinds is that of a kind.
-use Rattle.typst_kinds.proofs.Cited.{◌≡◌, ℕ, zero, suc, ◌+◌, ◌<◌, ◌≤◌, List, [], ◌∷◌, length, map, get_or, Option, None, Some, refl, ap, sym, ◌∙◌, arith, zero-add, get_or-map, same_Some, none-some, slice_get-map, slice_get_within, option_copied, option_map, slice_get, place_of, SyntaxKind}
+use Rattle.typst_kinds.proofs.Cited.{◌≡◌, ℕ, zero, suc, ◌+◌, ◌<◌, List, [], ◌∷◌, length, map, get_or, Option, Some, refl, ap, sym, ◌∙◌, arith, zero-add, get_or-map, same_Some, none-some, slice_get-map, slice_get_within, option_copied, option_map, slice_get, place_of, SyntaxKind, slice_get_past, slice_get-get_or}
 use Rattle.std.proofs.lemmas.List.FromFn.{get_or-range_with_len}
 use Rattle.std.specs.Borrow.{Bor}
 use Rattle.std.specs.List.{range_with_len}
@@ -12,19 +12,9 @@ get_is [] n d x e = absurd (none-some x e)
 get_is (y ∷ xs) zero d x e = same_Some y x e
 get_is (y ∷ xs) (suc n) d x e = get_is xs n d x e
 
-get_some : {A : Type 0} (xs : List A) (n : ℕ) (d : A) → n < length xs → slice_get xs n ≡ Some (get_or xs n d)
-get_some [] n d h = absurd (omega (arith, h))
-get_some (x ∷ xs) zero d h = refl
-get_some (x ∷ xs) (suc n) d h = get_some xs n d (omega (arith, h))
-
-get_none : {A : Type 0} (xs : List A) (n : ℕ) → length xs ≤ n → slice_get xs n ≡ None
-get_none [] n h = refl
-get_none (x ∷ xs) zero h = absurd (omega (arith, h))
-get_none (x ∷ xs) (suc n) h = get_none xs n (omega (arith, h))
-
 -- what `get` lends, if it lends something
 pub got : {A : Type 0} (xs : List A) (n : ℕ) (r : Option (Bor A)) → IsItemAt xs n r → option_copied r ≡ slice_get xs n
-got xs n r h = grind (arith, get_none, get_some)
+got xs n r h = grind (arith, slice_get_past, slice_get-get_or)
 
 -- elements whose numbers rise one by one
 pub numbered : {A : Type 0} (f : A → ℕ) (xs : List A) (a count n : ℕ) (x : A) → map f xs ≡ range_with_len a count → length xs ≡ count → slice_get xs n ≡ Some x → f x ≡ a + n

@@ -591,7 +591,7 @@ impl Own {
         }
     }
 
-    /// The same for a node of any kind.
+    /// Sets the counts of a node of any kind, as set_counts does.
     #[inline(never)]
     fn set_counts_apart(&mut self, len: usize, descendants: usize, is_marked: bool)
         requires { self.old.head.is_inner ≡ false → 1 < self.old.descendants }

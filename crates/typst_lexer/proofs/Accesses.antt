@@ -1,5 +1,5 @@
 -- Names with fields: what a loop over the names between dots makes, and its text.
-use Rattle.typst_lexer.proofs.Cited.{◌≡◌, ◌<◌, ℕ, suc, ◌+◌, Bool, true, false, not, if◌then◌else◌, ◌==◌, List, [], ◌∷◌, ◌++◌, length, take, codes, encode_utf8_all, refl, ap, sym, ◌∙◌, append-nil, append_assoc, arith, encodes-append, prefix_len, chars, Place, place_at, moved, moved_from, passes, past, run, scout, moved-less, past-stops, longer, names_of, name_node, field_node, fields_node, named_node, access_node}
+use Rattle.typst_lexer.proofs.Cited.{◌≡◌, ◌<◌, ℕ, ◌+◌, Bool, true, false, not, if◌then◌else◌, ◌==◌, List, [], ◌∷◌, ◌++◌, length, take, codes, encode_utf8_all, refl, ap, sym, ◌∙◌, append-nil, append_assoc, arith, encodes-append, prefix_len, chars, Place, place_at, moved, moved_from, passes, past, run, scout, moved-less, past-stops, longer, names_of, name_node, field_node, fields_node, named_node, access_node, one-add}
 use Rattle.typst_kinds.specs.declared.kind.SyntaxKind.TheVariants as kind
 use Rattle.typst_tree.specs.Tree.{Tree, forest, leaf_of, inner_of, text_of}
 
@@ -14,9 +14,6 @@ rest_of (name ∷ names) = names
 abbrev pub names_after : Place → List (List ℕ)
 names_after p = rest_of (names_of p.ahead)
 
-one-more : (n : ℕ) → 1 + n ≡ suc n
-one-more n = omega arith
-
 -- the first name goes up to a dot
 pub names-run : (before cs : List ℕ) → names_of cs ≡ take (prefix_len no_dot cs) cs ∷ rest_of (names_of (moved_from (prefix_len no_dot cs) before cs).ahead)
 names-run before [] = refl
@@ -24,7 +21,7 @@ names-run before (c ∷ cs) = by (names-run (c ∷ before) cs) (c == 46) refl
   where
     by : names_of cs ≡ take (prefix_len no_dot cs) cs ∷ rest_of (names_of (moved_from (prefix_len no_dot cs) (c ∷ before) cs).ahead) → (t : Bool) → (c == 46) ≡ t → names_of (c ∷ cs) ≡ take (prefix_len no_dot (c ∷ cs)) (c ∷ cs) ∷ rest_of (names_of (moved_from (prefix_len no_dot (c ∷ cs)) before (c ∷ cs)).ahead)
     by more true e = rw (e, e) refl
-    by more false e = rw (e, one-more (prefix_len no_dot cs)) (ap (longer c) more)
+    by more false e = rw (e, one-add (prefix_len no_dot cs)) (ap (longer c) more)
 
 -- the names from a place on
 pub names-past : (p : Place) → names_of p.ahead ≡ run no_dot p ∷ names_after (past no_dot p)

@@ -1,5 +1,6 @@
 -- The names that many of these proofs cite, passed on from one place. Declares nothing.
-pub use Rattle.std.proofs.Common.{Bool, List, None, Option, Some, [], ap, append-nil, append_assoc, arith, codes, drop, encode_utf8_all, false, if◌then◌else◌, is_none, length, length-append, length-drop, length-take-le, ltb-true, min, nat_lt, not, option_map, refl, reverse, rules, slice_get, subst, suc, sym, take, take-add, take_at, true, zero, ℕ, ◌&&◌, ◌++◌, ◌+◌, ◌-◌, ◌<◌, ◌==◌, ◌||◌, ◌∙◌, ◌∷◌, ◌≡◌, ◌≤◌}
+pub use Rattle.std.proofs.Common.{Bool, List, None, Option, Some, [], ap, append-nil, append_assoc, arith, codes, drop, encode_utf8_all, false, if◌then◌else◌, is_none, length, length-append, length-drop, length-take-le, ltb-true, min, nat_lt, not, one-add, option_map, refl, reverse, rules, slice_get, subst, suc, sym, take, take-add, take_at, true, zero, ℕ, ◌&&◌, ◌++◌, ◌+◌, ◌-◌, ◌<◌, ◌==◌, ◌||◌, ◌∙◌, ◌∷◌, ◌≡◌, ◌≤◌}
+pub use Rattle.std.proofs.lemmas.Bool.{and_parts}
 pub use Rattle.std.proofs.lemmas.Bool.Decides.{nat_tests}
 pub use Rattle.std.proofs.lemmas.Grind.{common_steps}
 pub use Rattle.std.proofs.lemmas.List.{length-take, reverse-append, reverse-reverse, take-append-drop, take_min}
@@ -28,10 +29,10 @@ unfoldable pub use Rattle.typst_lexer.specs.RawLines.{block_leaves, closing, ded
 pub use Rattle.typst_lexer.specs.RawTag.{in_tag, is_whole, only_tag, stretch, treated, width}
 unfoldable pub use Rattle.typst_lexer.specs.RawTag.{tag, warned}
 unfoldable pub use Rattle.typst_lexer.specs.Tokens.{backtick, hash, of_mode, slash, star, token}
-pub use Rattle.typst_lines.proofs.Bools.{and-first, and-second}
 pub use Rattle.typst_lines.proofs.CommonEnds.{before-all}
 pub use Rattle.typst_lines.proofs.Empty.{none-is}
-pub use Rattle.typst_lines.proofs.LineCluster.{IsLine-run, cluster-bytes, in_line-identifier, line-some}
+pub use Rattle.typst_lines.proofs.LineCluster.{IsLine-run, cluster-bytes, in_line-identifier, line-some, list_all-run, newline-white}
+pub use Rattle.typst_lines.proofs.LineTable.{ahead-text}
 pub use Rattle.typst_lines.specs.Classes.{CharClasses, IsLawful, IsLine, in_line}
 pub use Rattle.typst_lines.specs.Newline.{is_newline, line_end_len}
 pub use Rattle.typst_lines.specs.Place.{IsAfter, Place, bytes_ahead, moved, moved_back, moved_from, passes, past, run, scout}

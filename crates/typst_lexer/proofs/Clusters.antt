@@ -1,15 +1,6 @@
 -- Clusters, in one piece.
-use Rattle.typst_lexer.proofs.Cited.{◌≡◌, ◌≤◌, ◌<◌, ◌+◌, ℕ, zero, suc, Bool, true, false, ◌==◌, List, [], ◌∷◌, length, take, refl, sym, ap, subst, ◌∙◌, arith, length-append, if◌then◌else◌, nat_tests, length-take, encodes-chars, length-encode, scalars-chars, prefix_len, list_all, chars, IsUtf8, CharClasses, IsLine, IsLawful, in_line, none-is, Place, run, bytes_ahead, cluster_len, cluster, Sight, saw, went, sight, plain, Token, IsLine-run, cluster-bytes, encode_utf8, encode_utf8_all}
+use Rattle.typst_lexer.proofs.Cited.{◌≡◌, ◌≤◌, ◌<◌, ℕ, zero, suc, Bool, true, false, ◌==◌, List, [], ◌∷◌, length, take, refl, sym, ap, subst, ◌∙◌, arith, length-append, nat_tests, length-take, encodes-chars, length-encode, scalars-chars, prefix_len, list_all, chars, IsUtf8, CharClasses, IsLine, IsLawful, in_line, none-is, Place, run, bytes_ahead, cluster_len, cluster, Sight, saw, went, sight, plain, Token, IsLine-run, cluster-bytes, encode_utf8, encode_utf8_all, list_all-run}
 use Rattle.typst_kinds.specs.declared.kind.SyntaxKind.TheVariants as kind
-
-all-on : (test : ℕ → Bool) (c : ℕ) (cs : List ℕ) (b : Bool) → test c ≡ b → list_all test (take (prefix_len test cs) cs) ≡ true → list_all test (take (if b then 1 + prefix_len test cs else 0) (c ∷ cs)) ≡ true
-all-on test c cs true e h = let one : 1 + prefix_len test cs ≡ suc (prefix_len test cs) = omega arith in rw (one, e) h
-all-on test c cs false e h = refl
-
--- the characters of a run pass
-pub all-run : (test : ℕ → Bool) (cs : List ℕ) → list_all test (take (prefix_len test cs) cs) ≡ true
-all-run test [] = refl
-all-run test (c ∷ cs) = all-on test c cs (test c) refl (all-run test cs)
 
 -- a text that has bytes has characters
 pub some-chars : (text : List ℕ) (r : Bool) → IsUtf8 text → r ≡ (length text == 0) → r ≡ false → 0 < length (chars text)
@@ -19,7 +10,7 @@ pub some-run : (p : Place) (text : List ℕ) (r : Bool) → IsUtf8 text → char
 some-run p text r u t e f = subst (λ cs. 0 < length cs) t (some-chars text r u e f)
 
 pub inside-run : (p : Place) (text : List ℕ) → chars text ≡ run in_line p → list_all in_line (chars text) ≡ true
-inside-run p text t = ap (list_all in_line) t ∙ all-run in_line p.ahead
+inside-run p text t = ap (list_all in_line) t ∙ list_all-run in_line p.ahead
 
 -- the bytes of the cluster are those of whole characters ahead
 pub bytes-is : (k : CharClasses) → IsLawful k → (p q : Place) (text : List ℕ) (m : ℕ) (r : Bool) → IsUtf8 text → chars text ≡ run in_line p → r ≡ (length text == 0) → r ≡ false → q ≡ p
@@ -69,7 +60,7 @@ is-cluster k law text n u line e =
     ∙ ap (λ (bs : List ℕ). length (encode_utf8_all (take (k.cluster (chars text)) (chars text))) == length bs) (sym (encodes-chars text u))
     ∙ bytes-all (k.cluster (chars text)) (chars text) within.1
 
-take-again : (n : ℕ) (ds : List ℕ) → take (length (take n ds)) ds ≡ take n ds
+pub take-again : (n : ℕ) (ds : List ℕ) → take (length (take n ds)) ds ≡ take n ds
 take-again zero ds = refl
 take-again (suc n) [] = refl
 take-again (suc n) (d ∷ ds) = ap (λ t. d ∷ t) (take-again n ds)

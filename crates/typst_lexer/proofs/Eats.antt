@@ -1,5 +1,5 @@
 -- A token of a formula takes at least one character.
-use Rattle.typst_lexer.proofs.Cited.{◌≡◌, ◌≤◌, ◌<◌, ℕ, suc, Bool, true, ◌==◌, ◌||◌, List, [], ◌∷◌, length, nat_lt, codes, arith, subst, sym, refl, Option, Some, None, ltb-true, list_all, CharClasses, in_line, Place, scout, passes, run, primes, atom, by_class, single, math_from, math, continues, name, Reader, at_word, eaten, sign, Memory, plain, Token, string, and-first, and-second, answer, skip, either, some-ahead, line-eats, run-ahead, backslash}
+use Rattle.typst_lexer.proofs.Cited.{◌≡◌, ◌≤◌, ◌<◌, ℕ, suc, Bool, true, ◌==◌, ◌||◌, List, [], ◌∷◌, length, nat_lt, codes, arith, subst, sym, refl, Option, Some, None, ltb-true, list_all, CharClasses, in_line, Place, scout, passes, run, primes, atom, by_class, single, math_from, math, continues, name, Reader, at_word, eaten, sign, Memory, plain, Token, string, answer, skip, either, some-ahead, line-eats, run-ahead, backslash, and_parts}
 use Rattle.typst_lines.specs.declared.classes.MathClass.{MathClass}
 use Rattle.typst_kinds.specs.declared.kind.SyntaxKind.{SyntaxKind}
 use Rattle.typst_kinds.specs.declared.kind.SyntaxKind.TheVariants as kind
@@ -16,8 +16,8 @@ is_some word = nat_lt 0 (length word)
 any-eats : (t : SyntaxKind) (words : List (List ℕ)) (other : Reader Memory Token) (p : Place) → 1 ≤ length p.ahead → list_all is_some words ≡ true → 1 ≤ eaten other p → 1 ≤ eaten (any_word t words other) p
 any-eats t [] other p l e o = o
 any-eats t (word ∷ words) other p l e o =
-    let some : 0 < length word = ltb-true 0 (length word) (and-first _ _ e) in
-    word-eats 0 word (skip (length word) (answer (plain t))) (any_word t words other) p (omega (arith, l, some)) (any-eats t words other p l (and-second _ _ e) o)
+    let some : 0 < length word = ltb-true 0 (length word) (and_parts _ _ e).0 in
+    word-eats 0 word (skip (length word) (answer (plain t))) (any_word t words other) p (omega (arith, l, some)) (any-eats t words other p l (and_parts _ _ e).1 o)
 
 len-some : (k : CharClasses) (line : List ℕ) → 1 ≤ cluster_len k line
 len-some k line = grind arith

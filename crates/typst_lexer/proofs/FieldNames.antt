@@ -1,5 +1,5 @@
 -- Names and their fields, in one piece.
-use Rattle.typst_lexer.proofs.Cited.{◌≡◌, ◌≤◌, ◌<◌, ◌+◌, ◌==◌, ℕ, suc, Bool, true, false, ◌&&◌, if◌then◌else◌, List, [], ◌∷◌, length, slice_get, refl, ap, ◌∙◌, arith, Some, prefix_len, CharClasses, moved, moved_from, passes, scout, continues, is_field, in_fields, after_name, covers-saw, covers-went, far-end, far-next, far-on, same-sight, saw-ahead, Sight, Covers, saw, saw_by, went, went_past, sight, Memory, plain, Token, sight-pairs, past-stops, moved-less, answer, skip}
+use Rattle.typst_lexer.proofs.Cited.{◌≡◌, ◌≤◌, ◌<◌, ◌+◌, ◌==◌, ℕ, suc, Bool, true, false, if◌then◌else◌, List, [], ◌∷◌, length, slice_get, refl, ap, ◌∙◌, arith, Some, prefix_len, CharClasses, moved, moved_from, passes, scout, continues, is_field, in_fields, after_name, covers-saw, covers-went, far-end, far-next, far-on, same-sight, saw-ahead, Sight, Covers, saw, saw_by, went, went_past, sight, Memory, plain, Token, sight-pairs, past-stops, moved-less, answer, skip, and_parts}
 use Rattle.typst_kinds.specs.declared.kind.SyntaxKind.TheVariants as kind
 use Rattle.typst_tokens.proofs.Spans.{sight-turn, sight-end}
 use Rattle.typst_tokens.specs.Pairs.{pairs_len}
@@ -92,14 +92,10 @@ field-on k c d b a r l h e f =
 pub rest-field : (k : CharClasses) (v : Sight) → Covers v → passes (continues k) (scout 0 v.place) ≡ false → is_field k (scout 0 v.place) (scout 1 v.place) ≡ true → sight (rest k) v ≡ sight (rest k) (went 2 (saw 2 v))
 rest-field k v h e f = on v.place.before v.place.ahead v.reach v.least h e f
   where
-    never : (t : Bool) → (t && false) ≡ true → ⊥
-    never true g = cc
-    never false g = cc
-
     on : (b a : List ℕ) (r l : ℕ) → Covers (record { place = place b a; reach = r; least = l }) → passes (continues k) (slice_get a 0) ≡ false → is_field k (slice_get a 0) (slice_get a 1) ≡ true
         → sight (rest k) (record { place = place b a; reach = r; least = l }) ≡ sight (rest k) (went 2 (saw 2 (record { place = place b a; reach = r; least = l })))
     on b [] r l h e f = absurd (cc)
-    on b (c ∷ []) r l h e f = absurd (never (passes (λ c. c == 46) (Some c)) f)
+    on b (c ∷ []) r l h e f = let bad = and_parts (passes (λ c. c == 46) (Some c)) false f in absurd (cc)
     on b (c ∷ d ∷ a) r l h e f = field-on k c d b a r l h e f
 
 -- ---- the whole

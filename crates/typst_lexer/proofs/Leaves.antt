@@ -4,17 +4,12 @@ use Rattle.typst_kinds.specs.declared.kind.SyntaxKind.TheVariants as kind
 use Rattle.typst_tree.specs.Tree.{Tree, forest, joined, text_of, error_of}
 use Rattle.typst_lexer.specs.RawLaws.{RawLeaves}
 use Rattle.typst_lexer.proofs.Rows.{row_chars, lines-joined, front-closing}
+pub use Rattle.typst_tree.proofs.ReplacesChildren.{joined-append as texts-append}
+use Rattle.typst_lexer.proofs.Clusters.{take-again}
 
 -- the texts of some trees
 abbrev pub texts : List Tree → List ℕ
 texts ts = joined (forest ts)
-
-texts-append : (ts us : List Tree) → texts (ts ++ us) ≡ texts ts ++ texts us
-texts-append [] us = refl
-texts-append (t ∷ ts) us =
-    ap (λ x. t.head.text ++ (joined t.kids ++ x)) (texts-append ts us)
-    ∙ ap (λ x. t.head.text ++ x) (sym (append_assoc (joined t.kids) (texts ts) (texts us)))
-    ∙ sym (append_assoc t.head.text (joined t.kids ++ texts ts) (texts us))
 
 texts-trimmed : (cs : List ℕ) → texts (trimmed cs) ≡ encode_utf8_all cs
 texts-trimmed cs = grind (arith, append-nil)
@@ -132,13 +127,8 @@ text-warned n tag inner t = grind arith
 
 -- ---- the node
 
-take-front : (n : ℕ) (cs : List ℕ) → take (length (take n cs)) cs ≡ take n cs
-take-front zero cs = refl
-take-front (suc n) [] = refl
-take-front (suc n) (c ∷ cs) = ap (λ t. c ∷ t) (take-front n cs)
-
 front-joined : (n : ℕ) (cs : List ℕ) → take n cs ++ drop (length (take n cs)) cs ≡ cs
-front-joined n cs = ap (λ t. t ++ drop (length (take n cs)) cs) (sym (take-front n cs)) ∙ take-append-drop (length (take n cs)) cs
+front-joined n cs = ap (λ t. t ++ drop (length (take n cs)) cs) (sym (take-again n cs)) ∙ take-append-drop (length (take n cs)) cs
 
 tag-front : (cs : List ℕ) → tag cs ++ drop (length (tag cs)) cs ≡ cs
 unfolding tag

@@ -1,6 +1,5 @@
 -- A name's own text.
-use Rattle.typst_lexer.proofs.Cited.{◌≡◌, ◌<◌, ◌+◌, ◌++◌, ◌&&◌, ◌==◌, ℕ, Bool, true, false, not, List, [], ◌∷◌, length, reverse, slice_get, take, refl, sym, ap, subst, ◌∙◌, arith, Some, encode_utf8_all, nat_tests, scalars-chars, IsScalar, is_whitespace, prefix_len, list_all, chars, all_scalars, IsUtf8, CharClasses, IsLawful, in_line, is_newline, Place, moved, moved_from, passes, run, scout, continues, named, name, after_name, text-on, Sight, text_of, saw, went, went_past, sight, plain, Token, line-some, in_line-identifier}
-use Rattle.typst_lexer.proofs.Clusters.{all-run}
+use Rattle.typst_lexer.proofs.Cited.{◌≡◌, ◌<◌, ◌+◌, ◌++◌, ◌==◌, ℕ, Bool, true, false, not, List, [], ◌∷◌, length, reverse, slice_get, take, refl, sym, ap, subst, ◌∙◌, arith, Some, encode_utf8_all, scalars-chars, IsScalar, prefix_len, list_all, chars, all_scalars, IsUtf8, CharClasses, IsLawful, in_line, is_newline, Place, moved, moved_from, passes, run, scout, continues, named, name, after_name, text-on, Sight, text_of, saw, went, went_past, sight, plain, Token, line-some, in_line-identifier, list_all-run, newline-white, and_parts}
 use Rattle.typst_kinds.specs.declared.kind.SyntaxKind.TheVariants as kind
 
 -- how many characters a name has
@@ -27,13 +26,6 @@ own-is k c p cs e f = f ∙ own-on (continues k) c p.before p.ahead e
 pub own-some : (own cs : List ℕ) (c : ℕ) → chars own ≡ c ∷ cs → 0 < length own
 own-some own cs c e = line-some own (subst (λ t. 0 < length t) (sym e) (omega arith))
 
-and-both : (a b : Bool) → (a && b) ≡ true → (a ≡ true) × (b ≡ true)
-and-both true b e = (refl, e)
-and-both false b e = absurd (cc)
-
-newline-white : (c : ℕ) → is_newline c ≡ true → is_whitespace c ≡ true
-newline-white c e = grind (arith, nat_tests)
-
 starts-inside : (k : CharClasses) → IsLawful k → (c : ℕ) → IsScalar c → k.xid_start c ≡ true → in_line c ≡ true
 starts-inside k law c scalar starts = by-test (is_newline c) refl
   where
@@ -44,17 +36,17 @@ starts-inside k law c scalar starts = by-test (is_newline c) refl
 all-weaker : (k : CharClasses) (cs : List ℕ) → list_all (continues k) cs ≡ true → list_all k.xid_continue cs ≡ true
 all-weaker k [] e = refl
 all-weaker k (c ∷ cs) e =
-    let both = and-both (continues k c) (list_all (continues k) cs) e in
-    let own = and-both (k.xid_continue c) (not (c == 95)) both.0 in
+    let both = and_parts (continues k c) (list_all (continues k) cs) e in
+    let own = and_parts (k.xid_continue c) (not (c == 95)) both.0 in
     rw own.0 (all-weaker k cs both.1)
 
 -- they stand within a line
 pub own-inside : (k : CharClasses) → IsLawful k → (c : ℕ) (p : Place) (own : List ℕ) → IsUtf8 own → chars own ≡ c ∷ run (continues k) p → k.xid_start c ≡ true → list_all in_line (chars own) ≡ true
 own-inside k law c p own u e starts =
     let scalars = subst (λ cs. all_scalars cs ≡ true) e (scalars-chars own u) in
-    let s = and-both _ (all_scalars (run (continues k) p)) scalars in
+    let s = and_parts _ (all_scalars (run (continues k) p)) scalars in
     ap (list_all in_line) e
-    ∙ rw (starts-inside k law c s.0 starts) (in_line-identifier k law (run (continues k) p) s.1 (all-weaker k (run (continues k) p) (all-run (continues k) p.ahead)))
+    ∙ rw (starts-inside k law c s.0 starts) (in_line-identifier k law (run (continues k) p) s.1 (all-weaker k (run (continues k) p) (list_all-run (continues k) p.ahead)))
 
 -- ---- the whole
 

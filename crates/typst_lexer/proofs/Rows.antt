@@ -1,17 +1,10 @@
 -- Facts on the lines of characters.
-use Rattle.typst_lexer.proofs.Cited.{◌≡◌, ℕ, suc, ◌+◌, ◌-◌, Bool, true, false, ◌&&◌, ◌==◌, List, [], ◌∷◌, ◌++◌, drop, reverse, slice_get, refl, sym, ap, ◌∙◌, arith, append_assoc, append-nil, take_at, length-append, nat_tests, reverse-reverse, reverse-append, prefix_len, in_line, passes, RawLine, paired, first_line, later_lines, last_of, last_raw_line, is_blank, has_spare_space, end_of, closing, front}
-use Rattle.std.proofs.lemmas.Bool.{and_parts}
+use Rattle.typst_lexer.proofs.Cited.{◌≡◌, ℕ, suc, ◌+◌, ◌-◌, Bool, true, false, ◌==◌, List, [], ◌∷◌, ◌++◌, drop, reverse, slice_get, refl, sym, ap, ◌∙◌, arith, append_assoc, append-nil, take_at, length-append, nat_tests, reverse-reverse, reverse-append, prefix_len, in_line, passes, RawLine, paired, first_line, later_lines, last_of, last_raw_line, is_blank, has_spare_space, end_of, closing, front, and_parts}
 use Rattle.typst_lines.specs.Newline.{is_newline, stretches, line_ends, onto_first}
+use Rattle.typst_lines.proofs.SplitLaw.{both-ends, crlf, lone-ends, lone-stretch, plain-ends, plain-stretch}
 
 abbrev pub row : List ℕ → List ℕ → RawLine
 row ending line = record { ending = ending; line = line }
-
--- a carriage return that a line feed follows
-abbrev pub crlf : ℕ → List ℕ → Bool
-crlf c rest = c == 13 && passes (λ d. d == 10) (slice_get rest 0)
-
-pub ten : (d : ℕ) → (d == 10) ≡ true → d ≡ 10
-ten d t = grind (arith, nat_tests)
 
 -- ---- the first line
 
@@ -23,23 +16,8 @@ first-end c cs n = rw n refl
 
 -- ---- one character before others
 
-stretch-plain : (c : ℕ) (cs : List ℕ) → is_newline c ≡ false → stretches (c ∷ cs) ≡ onto_first c (stretches cs)
-stretch-plain c cs n = rw n refl
-
-ends-plain : (c : ℕ) (cs : List ℕ) → is_newline c ≡ false → line_ends (c ∷ cs) ≡ line_ends cs
-ends-plain c cs n = rw n refl
-
-stretch-lone : (c : ℕ) (cs : List ℕ) → is_newline c ≡ true → crlf c cs ≡ false → stretches (c ∷ cs) ≡ [] ∷ stretches cs
-stretch-lone c cs n e = rw (n, e) refl
-
-ends-lone : (c : ℕ) (cs : List ℕ) → is_newline c ≡ true → crlf c cs ≡ false → line_ends (c ∷ cs) ≡ (c ∷ []) ∷ line_ends cs
-ends-lone c cs n e = rw (n, e) refl
-
 stretch-both : (c : ℕ) (cs : List ℕ) → is_newline c ≡ true → crlf c (10 ∷ cs) ≡ true → stretches (c ∷ 10 ∷ cs) ≡ [] ∷ stretches cs
 stretch-both c cs n e = rw (n, e) refl
-
-ends-both : (c : ℕ) (cs : List ℕ) → is_newline c ≡ true → crlf c (10 ∷ cs) ≡ true → line_ends (c ∷ 10 ∷ cs) ≡ (c ∷ 10 ∷ []) ∷ line_ends cs
-ends-both c cs n e = rw (n, e) refl
 
 -- a property of all texts, by what their first characters are
 pub by_lines : (P : List ℕ → Type 0) → P [] → ((c : ℕ) (cs : List ℕ) → is_newline c ≡ false → P cs → P (c ∷ cs))
@@ -57,8 +35,8 @@ by_lines P none plain lone both (c ∷ d ∷ cs) = ending (is_newline c) (crlf c
 -- the stretches begin with the first line
 pub stretches-first : (cs : List ℕ) → stretches cs ≡ first_line cs ∷ drop 1 (stretches cs)
 stretches-first = by_lines (λ cs. stretches cs ≡ first_line cs ∷ drop 1 (stretches cs)) refl
-    (λ c cs n h. stretch-plain c cs n ∙ ap (onto_first c) h ∙ ap (λ l. l ∷ drop 1 (stretches cs)) (sym (first-plain c cs n)) ∙ ap (λ t. first_line (c ∷ cs) ∷ t) (sym (ap (drop 1) (stretch-plain c cs n ∙ ap (onto_first c) h))))
-    (λ c cs n e h. stretch-lone c cs n e ∙ ap (λ t. t ∷ stretches cs) (sym (first-end c cs n)) ∙ ap (λ t. first_line (c ∷ cs) ∷ t) (sym (ap (drop 1) (stretch-lone c cs n e))))
+    (λ c cs n h. plain-stretch c cs n ∙ ap (onto_first c) h ∙ ap (λ l. l ∷ drop 1 (stretches cs)) (sym (first-plain c cs n)) ∙ ap (λ t. first_line (c ∷ cs) ∷ t) (sym (ap (drop 1) (plain-stretch c cs n ∙ ap (onto_first c) h))))
+    (λ c cs n e h. lone-stretch c cs n e ∙ ap (λ t. t ∷ stretches cs) (sym (first-end c cs n)) ∙ ap (λ t. first_line (c ∷ cs) ∷ t) (sym (ap (drop 1) (lone-stretch c cs n e))))
     (λ c cs n e h. stretch-both c cs n e ∙ ap (λ t. t ∷ stretches cs) (sym (first-end c (10 ∷ cs) n)) ∙ ap (λ t. first_line (c ∷ 10 ∷ cs) ∷ t) (sym (ap (drop 1) (stretch-both c cs n e))))
 
 pub later-none : later_lines [] ≡ []
@@ -70,15 +48,15 @@ drop-onto c texts = grind arith
 
 pub later-plain : (c : ℕ) (cs : List ℕ) → is_newline c ≡ false → later_lines (c ∷ cs) ≡ later_lines cs
 unfolding later_lines
-later-plain c cs n = ap (λ t. paired t (drop 1 (stretches (c ∷ cs)))) (ends-plain c cs n) ∙ ap (λ t. paired (line_ends cs) (drop 1 t)) (stretch-plain c cs n) ∙ ap (paired (line_ends cs)) (drop-onto c (stretches cs))
+later-plain c cs n = ap (λ t. paired t (drop 1 (stretches (c ∷ cs)))) (plain-ends c cs n) ∙ ap (λ t. paired (line_ends cs) (drop 1 t)) (plain-stretch c cs n) ∙ ap (paired (line_ends cs)) (drop-onto c (stretches cs))
 
 pub later-lone : (c : ℕ) (cs : List ℕ) → is_newline c ≡ true → crlf c cs ≡ false → later_lines (c ∷ cs) ≡ row (c ∷ []) (first_line cs) ∷ later_lines cs
 unfolding later_lines
-later-lone c cs n e = ap (λ t. paired t (drop 1 (stretches (c ∷ cs)))) (ends-lone c cs n e) ∙ ap (λ t. paired ((c ∷ []) ∷ line_ends cs) (drop 1 t)) (stretch-lone c cs n e) ∙ ap (paired ((c ∷ []) ∷ line_ends cs)) (stretches-first cs)
+later-lone c cs n e = ap (λ t. paired t (drop 1 (stretches (c ∷ cs)))) (lone-ends c cs n e) ∙ ap (λ t. paired ((c ∷ []) ∷ line_ends cs) (drop 1 t)) (lone-stretch c cs n e) ∙ ap (paired ((c ∷ []) ∷ line_ends cs)) (stretches-first cs)
 
 pub later-both : (c : ℕ) (cs : List ℕ) → is_newline c ≡ true → crlf c (10 ∷ cs) ≡ true → later_lines (c ∷ 10 ∷ cs) ≡ row (c ∷ 10 ∷ []) (first_line cs) ∷ later_lines cs
 unfolding later_lines
-later-both c cs n e = ap (λ t. paired t (drop 1 (stretches (c ∷ 10 ∷ cs)))) (ends-both c cs n e) ∙ ap (λ t. paired ((c ∷ 10 ∷ []) ∷ line_ends cs) (drop 1 t)) (stretch-both c cs n e) ∙ ap (paired ((c ∷ 10 ∷ []) ∷ line_ends cs)) (stretches-first cs)
+later-both c cs n e = ap (λ t. paired t (drop 1 (stretches (c ∷ 10 ∷ cs)))) (both-ends c cs n e) ∙ ap (λ t. paired ((c ∷ 10 ∷ []) ∷ line_ends cs) (drop 1 t)) (stretch-both c cs n e) ∙ ap (paired ((c ∷ 10 ∷ []) ∷ line_ends cs)) (stretches-first cs)
 
 -- ---- the lines joined
 

@@ -14,10 +14,6 @@ start-of text = refl
 pub second-on : (p : Place) → (moved 1 (moved 1 p)).ahead ≡ drop 2 p.ahead
 second-on p = grind arith
 
-pub start-ahead : (text : List ℕ) → (place_at text 0).ahead ≡ chars text
-unfolding place_at
-start-ahead text = refl
-
 abbrev or_zero : Option ℕ → ℕ
 or_zero o = elim o [ Some n ↦ n | None ↦ 0 ]
 

@@ -1,10 +1,10 @@
 -- Facts on tags, and on what is warned of.
-use Rattle.typst_lexer.proofs.Cited.{◌≡◌, ◌<◌, ℕ, suc, ◌+◌, ◌-◌, Bool, true, false, ◌==◌, List, [], ◌∷◌, length, take, drop, reverse, slice_get, Some, None, refl, sym, ap, ◌∙◌, arith, length-take-le, nat_tests, chars-nil, encodes-chars, prefix_len, chars, IsUtf8, Place, place_at, moved_back, passes, past, run, Tree, error_of, remarked, advised, leaf, is_tick, past_ticks, before_ticks, tag_leaves, is_pair, two_delimiters, closed_node, delimited_node, raw_node, in_tag, tag, width, stretch, treated, is_whole, only_tag, warned, Bytes, codes, encode_utf8_all}
+use Rattle.typst_lexer.proofs.Cited.{◌≡◌, ◌<◌, ℕ, suc, ◌+◌, ◌-◌, Bool, true, false, ◌==◌, List, [], ◌∷◌, length, take, drop, reverse, slice_get, Some, None, refl, sym, ap, ◌∙◌, arith, length-take-le, nat_tests, chars-nil, encodes-chars, prefix_len, chars, IsUtf8, Place, place_at, moved_back, passes, past, run, Tree, error_of, remarked, advised, leaf, is_tick, past_ticks, before_ticks, tag_leaves, is_pair, two_delimiters, closed_node, delimited_node, raw_node, in_tag, tag, width, stretch, treated, is_whole, only_tag, warned, Bytes, codes, encode_utf8_all, ahead-text}
 use Rattle.std.proofs.lemmas.List.Sums.{prefix_len-le-length}
 use Rattle.typst_lines.proofs.AsciiRuns.{run-width}
 use Rattle.typst_kinds.specs.declared.kind.SyntaxKind.TheVariants as kind
 use Rattle.typst_tree.specs.Diagnostic.{warning_with, hint_with}
-use Rattle.typst_lexer.proofs.Moves.{at, start-ahead, start-before, moved-ahead, moved-before}
+use Rattle.typst_lexer.proofs.Moves.{at, start-before, moved-ahead, moved-before}
 
 -- ---- where the tag ends
 
@@ -13,7 +13,7 @@ drop-taken test cs = ap (λ n. drop n cs) (length-take-le (prefix_len test cs) c
 
 module _ (text : List ℕ) (p q : Place) (start : p ≡ place_at text 0) (moves : q ≡ past in_tag p) where
   ahead-is : p.ahead ≡ chars text
-  ahead-is = ap (λ x. x.ahead) start ∙ start-ahead text
+  ahead-is = ap (λ x. x.ahead) start ∙ ahead-text text
 
   before-is : p.before ≡ []
   before-is = ap (λ x. x.before) start ∙ start-before text
@@ -103,7 +103,7 @@ pub record IsSplit (text delim rest : List ℕ) : Type 0 where
 pub split-is : (text delim rest : List ℕ) (p q : Place) → IsUtf8 delim → p ≡ place_at text 0 → q ≡ past is_tick p → chars delim ≡ run is_tick p → chars rest ≡ q.ahead → IsSplit text delim rest
 split-is text delim rest p q u start moves taken left =
     let cs = chars text in
-    let all : p.ahead ≡ cs = ap (λ x. x.ahead) start ∙ start-ahead text in
+    let all : p.ahead ≡ cs = ap (λ x. x.ahead) start ∙ ahead-text text in
     let d : chars delim ≡ take (prefix_len is_tick cs) cs = taken ∙ ap (λ x. take (prefix_len is_tick x) x) all in
     let r : chars rest ≡ drop (prefix_len is_tick cs) cs = left ∙ ap (λ x. x.ahead) moves ∙ moved-ahead (prefix_len is_tick p.ahead) p ∙ ap (λ x. drop (prefix_len is_tick x) x) all in
     record {

@@ -1,5 +1,5 @@
 -- The first cluster of a line that begins with two ASCII characters, or is one.
-use Rattle.typst_lines.proofs.Cited.{◌≡◌, ◌<◌, ℕ, Bool, true, false, ◌||◌, ◌==◌, if◌then◌else◌, List, [], ◌∷◌, ◌++◌, take, length, refl, sym, ◌∙◌, arith, ltb-true, unwrap_or, append-nil, encode_ascii, is_ascii, list_all, cut, in_line, kept_cluster, break_by_pair, is_grapheme_break, first_len, unicode_cluster, encode_utf8_all}
+use Rattle.typst_lines.proofs.Cited.{◌≡◌, ◌<◌, ℕ, Bool, true, false, ◌||◌, ◌==◌, if◌then◌else◌, List, [], ◌∷◌, ◌++◌, take, length, refl, sym, ◌∙◌, arith, ltb-true, unwrap_or, append-nil, encode_ascii, is_ascii, list_all, cut, in_line, kept_cluster, break_by_pair, is_grapheme_break, first_len, unicode_cluster, encode_utf8_all, and_parts}
 use Rattle.unicode.specs.GraphemeClusterBreak.{grapheme_cluster_break}
 use Rattle.unicode.specs.declared.properties.GraphemeClusterBreak.{GraphemeClusterBreak}
 use Rattle.unicode.specs.declared.properties.GraphemeClusterBreak.TheVariants.{Control, Lf, Other}
@@ -7,7 +7,6 @@ use Rattle.unicode.proofs.BreaksComputing.{ucd_breaks}
 use Rattle.unicode.proofs.GraphemeClusterBreakLemmas.{grapheme_cluster_break_stepped}
 use Rattle.unicode.proofs.Facts.{Stepped-below}
 use Rattle.unicode_segmentation.proofs.GraphemeLemmas.{is_grapheme_break-inside, is_grapheme_break-others}
-use Rattle.typst_lines.proofs.Bools.{and-first, and-second}
 
 -- the value joins with none of its kind, nor with what stands before or after it
 abbrev stands_alone : GraphemeClusterBreak → Bool
@@ -44,10 +43,10 @@ first_alone c d cs e = rw e refl
 
 kept_one : (cs : List ℕ) → 0 < length cs → list_all in_line cs ≡ true → list_all is_ascii (take 2 cs) ≡ true → kept_cluster unicode_cluster cs ≡ 1
 unfolding unicode_cluster
-kept_one cs some inside front = grind (arith, ltb-true, and-first, and-second, one_or, first_alone, breaks)
+kept_one cs some inside front = grind (arith, ltb-true, and_parts, one_or, first_alone, breaks)
 
 one_byte : (cs : List ℕ) → 0 < length cs → list_all is_ascii (take 2 cs) ≡ true → length (encode_utf8_all (take 1 cs)) ≡ 1
-one_byte cs some front = grind (arith, append-nil, encode_ascii, ltb-true, and-first)
+one_byte cs some front = grind (arith, append-nil, encode_ascii, ltb-true, and_parts)
 
 pub front_cluster : (cs : List ℕ) → 0 < length cs → list_all in_line cs ≡ true → list_all is_ascii (take 2 cs) ≡ true
     → 1 ≡ length (encode_utf8_all (take (kept_cluster unicode_cluster cs) cs))

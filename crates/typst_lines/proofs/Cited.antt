@@ -2,7 +2,7 @@
 pub use Rattle.std.proofs.Common.{Bool, Bor, Fits, List, None, Option, Some, [], ap, append-nil, append_assoc, arith, bit_and, bit_or, cond, count_by, drop, drop-drop, drop_at, encode_utf8_all, false, filter, get_or, if◌then◌else◌, is_none, leb, length, length-append, length-drop, length-take-le, ltb, ltb-true, map, min, nat_eq, nat_le, nat_lt, not, one-add, refl, replicate, reverse, rules, slice_get, slice_range, string_bytes, subst, suc, sym, take, take-add, take-append-drop, take-take, take_all, take_at, tests, true, unwrap_or, w8, zero, ℕ, ◌%◌, ◌&&◌, ◌*◌, ◌++◌, ◌+◌, ◌-◌, ◌/◌, ◌<◌, ◌==◌, ◌^◌, ◌||◌, ◌∙◌, ◌∷◌, ◌≡◌, ◌≤◌}
 pub use Rattle.std.proofs.Math.ListN.{set}
 pub use Rattle.std.proofs.Math.Seq.{drop-append_seam, drop-cons, take-append_seam}
-pub use Rattle.std.proofs.lemmas.Bool.{agree_below, agree_below_at, cases_lt, not-false, not-true}
+pub use Rattle.std.proofs.lemmas.Bool.{agree_below, agree_below_at, and_parts, cases_lt, not-false, not-true}
 pub use Rattle.std.proofs.lemmas.Bool.Decides.{nat_tests}
 pub use Rattle.std.proofs.lemmas.Grind.{common_steps}
 pub use Rattle.std.proofs.lemmas.Iterator.{YieldsList, YieldsList-from_chars, YieldsList-from_take}

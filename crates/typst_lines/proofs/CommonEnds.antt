@@ -1,7 +1,7 @@
 -- What two texts have in common at the front and at the end.
 use Rattle.typst_lines.proofs.Cited.{◌≡◌, length, ℕ, ◌+◌, ◌-◌, ◌==◌, List, [], ◌∷◌, ◌++◌, slice_get, Option, Some, None, refl, sym, ap, subst, ◌∙◌, true, false, arith, take, drop, reverse, append_assoc, append-nil, drop_at, nat_eq, nat_tests, IsCharBoundary-end, chars, IsUtf8, IsCharBoundary, bytes, common_front, common_ends, IsCommonFront, Place, place_at, moved, moved_back, scout, passes, pointwise}
 use Rattle.std.proofs.lemmas.List.{take-append-drop}
-use Rattle.typst_lines.proofs.LineTable.{bytes-append, bytes-text, bytes-front, chars-split}
+use Rattle.typst_lines.proofs.LineTable.{bytes-append, bytes-text, bytes-front, chars-split, none-first}
 use Rattle.typst_lines.proofs.PlaceLemmas.{head-splits}
 use Rattle.typst_lines.proofs.RoundTrip.{bytes-before}
 
@@ -19,7 +19,7 @@ shares-more cs ds us vs rest left c h e f =
       second = h.second ∙ ap (λ t. h.front ++ t) f ∙ sym (append_assoc h.front (c ∷ []) left);
     }
 
-same-test : (c : ℕ) → (c == c) ≡ true
+pub same-test : (c : ℕ) → (c == c) ≡ true
 same-test c = grind (arith, nat_tests)
 
 front-append : (xs us vs : List ℕ) → common_front (xs ++ us) (xs ++ vs) ≡ xs ++ common_front us vs
@@ -102,12 +102,8 @@ ahead-step p c e = let t = head-splits p.ahead c (sym e) in rw t.1 refl
 pub before-step : (p : Place) (c : ℕ) → Some c ≡ slice_get p.before 0 → p.before ≡ c ∷ (moved_back p).before
 before-step p c e = let t = head-splits p.before c (sym e) in rw t.1 refl
 
-none-before : (cs : List ℕ) → slice_get cs 0 ≡ None → cs ≡ []
-none-before [] e = refl
-none-before (c ∷ cs) e = absurd (cc)
-
 pub before-none : (p : Place) → None ≡ slice_get p.before 0 → p.before ≡ []
-before-none p e = none-before p.before (sym e)
+before-none p e = none-first p.before (sym e)
 
 pub before-all : (s : List ℕ) → (place_at s (length s)).before ≡ reverse (chars s)
 before-all s = before-end s

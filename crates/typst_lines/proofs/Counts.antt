@@ -32,7 +32,7 @@ one-unit c lt = grind (arith, nat_tests)
 two-units : (c : ℕ) → 65536 ≤ c → utf16_len c ≡ 2
 two-units c le = grind (arith, nat_tests)
 
-below : (c n : ℕ) → c < n → nat_lt c n ≡ true
+pub below : (c n : ℕ) → c < n → nat_lt c n ≡ true
 below c n lt = grind (arith, nat_tests)
 
 above : (c n : ℕ) → n ≤ c → nat_lt c n ≡ false

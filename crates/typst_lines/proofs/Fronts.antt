@@ -36,7 +36,7 @@ left-end awaited p start h s = from p.ahead refl
 
 -- ---- the characters before
 
-before-from : (n : ℕ) (xs ys : List ℕ) → reverse (moved_from n xs ys).before ≡ reverse xs ++ take n ys
+pub before-from : (n : ℕ) (xs ys : List ℕ) → reverse (moved_from n xs ys).before ≡ reverse xs ++ take n ys
 before-from zero xs ys = sym (append-nil (reverse xs))
 before-from (suc n) xs [] = sym (append-nil (reverse xs))
 before-from (suc n) xs (c ∷ ys) = before-from n (c ∷ xs) ys ∙ ap (λ t. t ++ take n ys) (reverse-append (c ∷ []) xs) ∙ append_assoc (reverse xs) (c ∷ []) (take n ys)

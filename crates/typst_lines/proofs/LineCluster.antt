@@ -1,21 +1,12 @@
 -- A cluster of the rest of a line, as a step over the characters ahead.
-use Rattle.typst_lines.proofs.Cited.{◌≡◌, ◌≤◌, ◌<◌, ◌+◌, ℕ, zero, suc, Bool, true, false, ◌&&◌, if◌then◌else◌, List, [], ◌∷◌, take, length, refl, ap, arith, one-add, length-take, chars-nil, scalars-chars, prefix_len, list_all, chars, all_scalars, IsUtf8, nat_tests, IsScalar, is_whitespace, is_newline, Place, run, bytes_ahead, encode_utf8_all}
+use Rattle.typst_lines.proofs.Cited.{◌≡◌, ◌<◌, ◌+◌, ℕ, Bool, true, false, if◌then◌else◌, List, [], ◌∷◌, take, length, refl, ap, arith, one-add, length-take, chars-nil, scalars-chars, prefix_len, list_all, chars, all_scalars, IsUtf8, nat_tests, IsScalar, is_whitespace, is_newline, Place, run, bytes_ahead, encode_utf8_all, and_parts, take-take}
 use Rattle.typst_lines.specs.Classes.{CharClasses, IsLine, IsLawful, in_line}
-
-and-both : (a b : Bool) → (a && b) ≡ true → (a ≡ true) × (b ≡ true)
-and-both a b e = grind arith
 
 pub line-some : (bs : List ℕ) → 0 < length (chars bs) → 0 < length bs
 line-some [] some = let none : length (chars []) ≡ 0 = ap length chars-nil in absurd (omega arith)
 line-some (b ∷ bs) some = omega arith
 
-take-inner : (n m : ℕ) (xs : List ℕ) → n ≤ m → take n (take m xs) ≡ take n xs
-take-inner zero m xs le = refl
-take-inner (suc n) zero xs le = absurd (omega arith)
-take-inner (suc n) (suc m) [] le = refl
-take-inner (suc n) (suc m) (x ∷ xs) le = ap (λ t. x ∷ t) (take-inner n m xs (omega arith))
-
-list_all-run : (test : ℕ → Bool) (cs : List ℕ) → list_all test (take (prefix_len test cs) cs) ≡ true
+pub list_all-run : (test : ℕ → Bool) (cs : List ℕ) → list_all test (take (prefix_len test cs) cs) ≡ true
 list_all-run test [] = refl
 list_all-run test (c ∷ cs) =
     let by_test : (b : Bool) → test c ≡ b → list_all test (take (if b then 1 + prefix_len test cs else 0) (c ∷ cs)) ≡ true = elim [ true ↦ λ e. rw (one-add, e) (list_all-run test cs) | false ↦ λ _. refl ] in
@@ -33,10 +24,10 @@ cluster-bytes k law p line u e some =
     let n = k.cluster (run in_line p) in
     let m = prefix_len in_line p.ahead in
     let within = law.cluster (chars line) (IsLine-run p line u e some) in
-    grind (arith, length-take, take-inner)
+    grind (arith, length-take, take-take)
 
 -- a newline character is white space
-newline-white : (c : ℕ) → is_newline c ≡ true → is_whitespace c ≡ true
+pub newline-white : (c : ℕ) → is_newline c ≡ true → is_whitespace c ≡ true
 newline-white c e = grind (arith, nat_tests)
 
 in_line-continue : (k : CharClasses) → IsLawful k → (c : ℕ) → IsScalar c → k.xid_continue c ≡ true → in_line c ≡ true
@@ -46,6 +37,6 @@ in_line-continue k law c scalar goes_on = grind (arith, newline-white)
 pub in_line-identifier : (k : CharClasses) → IsLawful k → (cs : List ℕ) → all_scalars cs ≡ true → list_all k.xid_continue cs ≡ true → list_all in_line cs ≡ true
 in_line-identifier k law [] scalars goes_on = refl
 in_line-identifier k law (c ∷ cs) scalars goes_on =
-    let s = and-both _ (all_scalars cs) scalars in
-    let g = and-both (k.xid_continue c) (list_all k.xid_continue cs) goes_on in
+    let s = and_parts _ (all_scalars cs) scalars in
+    let g = and_parts (k.xid_continue c) (list_all k.xid_continue cs) goes_on in
     rw (in_line-continue k law c s.0 g.0) (in_line-identifier k law cs s.1 g.1)

@@ -139,9 +139,9 @@ ahead-text s = refl
 pub bytes-step : (p : Place) (c : ℕ) → Some c ≡ scout 0 p → bytes p.ahead ≡ char_width c + bytes (moved 1 p).ahead
 bytes-step p c e = let t = head-splits p.ahead c (sym e) in rw t.1 refl
 
-none-ahead : (cs : List ℕ) → slice_get cs 0 ≡ None → cs ≡ []
-none-ahead [] e = refl
-none-ahead (c ∷ cs) e = absurd (cc)
+pub none-first : (cs : List ℕ) → slice_get cs 0 ≡ None → cs ≡ []
+none-first [] e = refl
+none-first (c ∷ cs) e = absurd (cc)
 
 pub place-end : (p : Place) → None ≡ scout 0 p → p.ahead ≡ []
-place-end p e = none-ahead p.ahead (sym e)
+place-end p e = none-first p.ahead (sym e)

@@ -1,6 +1,5 @@
 -- Facts on the lines that start after a place.
-use Rattle.typst_lines.proofs.Cited.{◌≡◌, ◌≤◌, ◌<◌, Bool, length, ℕ, zero, suc, ◌+◌, List, [], ◌∷◌, ◌++◌, slice_get, Option, Some, None, refl, sym, ap, subst, ◌∙◌, true, false, arith, take, drop, filter, nat_lt, get_or, nat_tests, chars-nil, IsCharBoundary-start, chars, IsUtf8, IsCharBoundary, not-true, is_plain_byte, IsPlainFront, is_newline, ends_line, Place, place_at, moved, scout, char_width, IsStep, utf16_len, units, bytes, line_table, lines_after, utf16_before, IsPlainRun, Line}
-use Rattle.typst_lines.proofs.Bools.{and-first, and-second}
+use Rattle.typst_lines.proofs.Cited.{◌≡◌, ◌≤◌, ◌<◌, Bool, length, ℕ, zero, suc, ◌+◌, List, [], ◌∷◌, ◌++◌, slice_get, Option, Some, None, refl, sym, ap, subst, ◌∙◌, true, false, arith, take, drop, filter, nat_lt, get_or, nat_tests, chars-nil, IsCharBoundary-start, chars, IsUtf8, IsCharBoundary, not-true, is_plain_byte, IsPlainFront, is_newline, ends_line, Place, place_at, moved, scout, char_width, IsStep, utf16_len, units, bytes, line_table, lines_after, utf16_before, IsPlainRun, Line, and_parts}
 use Rattle.typst_lines.proofs.LineTable.{line_at, onto_if, starts_from, line_table-starts, width-positive, chars-split, bytes-front, place-end, ahead-text}
 use Rattle.typst_lines.proofs.PlaceLemmas.{head-splits, IsStep-from_ascii}
 use Rattle.typst_lines.proofs.RoundTrip.{units-before, units-moved}
@@ -79,7 +78,7 @@ plain-steps s v start i (suc n) run room plain =
     let here = plain (i + n) (omega arith) (omega arith) in
     let rest = plain-steps s v start i n run (omega arith) (λ k from to. plain k from (omega arith)) in
     let more : i + n + 1 ≡ i + suc n = omega arith in
-    subst (IsPlainRun s start) more (plain-step s v start (i + n) (get_or s (i + n) 0) rest (omega arith) refl (small _ (and-first _ _ here)) (not-true _ (and-second _ _ here)))
+    subst (IsPlainRun s start) more (plain-step s v start (i + n) (get_or s (i + n) 0) rest (omega arith) refl (small _ (and_parts _ _ here).0) (not-true _ (and_parts _ _ here).1))
   where
     small : (b : ℕ) → nat_lt b 128 ≡ true → b < 128
     small b e = grind (arith, nat_tests)

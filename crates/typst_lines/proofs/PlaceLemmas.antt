@@ -1,7 +1,6 @@
 -- Steps over the characters of a text.
-use Rattle.typst_lines.proofs.Cited.{◌≡◌, ℕ, zero, suc, Bool, true, ◌&&◌, slice_get, ◌+◌, ◌-◌, ◌<◌, ◌≤◌, List, [], ◌∷◌, ◌++◌, reverse, length, take, drop, slice_range, refl, sym, ap, subst, ◌∙◌, arith, append_assoc, append-nil, take-add, drop-drop, take_at, drop_at, length-append, length-take-le, length-drop, min, get_or, ◌==◌, Some, drop-cons, chars-nil, chars-append, scalars-chars, chars-encodes, encodes-chars, encodes-append, chars_past_char, IsUtf8-between, IsUtf8-take, IsUtf8-drop, IsUtf8-past_char, IsCharBoundary-from_drop, IsCharBoundary-from_take, length-encode, len_utf8_bounds, encode_ascii, all_scalars, prefix_len, IsScalar, chars, IsUtf8, IsCharBoundary, bytes_ahead, char_width, Place, place_at, moved, scout, moved_from, passes, past, word_at, IsStep, IsStepBack, IsFirst, IsLast, moved_back, drop_split, scalar, encode_utf8, encode_utf8_all}
+use Rattle.typst_lines.proofs.Cited.{◌≡◌, ℕ, zero, suc, Bool, true, ◌&&◌, slice_get, ◌+◌, ◌-◌, ◌<◌, ◌≤◌, List, [], ◌∷◌, ◌++◌, reverse, length, take, drop, slice_range, refl, sym, ap, subst, ◌∙◌, arith, append_assoc, append-nil, take-add, drop-drop, take_at, drop_at, length-append, length-take-le, length-drop, min, get_or, ◌==◌, Some, drop-cons, chars-nil, chars-append, scalars-chars, chars-encodes, encodes-chars, encodes-append, chars_past_char, IsUtf8-between, IsUtf8-take, IsUtf8-drop, IsUtf8-past_char, IsCharBoundary-from_drop, IsCharBoundary-from_take, length-encode, len_utf8_bounds, encode_ascii, all_scalars, prefix_len, IsScalar, chars, IsUtf8, IsCharBoundary, bytes_ahead, char_width, Place, place_at, moved, scout, moved_from, passes, past, word_at, IsStep, IsStepBack, IsFirst, IsLast, moved_back, drop_split, scalar, encode_utf8, encode_utf8_all, and_parts}
 use Rattle.std.proofs.lemmas.List.{reverse-append, reverse-reverse, take_min, take-append-drop}
-use Rattle.typst_lines.proofs.Bools.{and-first, and-second}
 
 pub encode_utf8_nonempty : (c : ℕ) → 0 < length (encode_utf8 c)
 encode_utf8_nonempty c = let bounds = len_utf8_bounds c in omega (arith, length-encode c)
@@ -42,7 +41,7 @@ module _ (s : List ℕ) (u : IsUtf8 s) (i c j : ℕ) (start : IsCharBoundary s i
   ahead = chars_past_char (drop i s) (drop j s) c (IsUtf8-drop s i u start) (e ∙ ap (λ t. encode_utf8 c ++ t) (sym behind_end))
 
   is_scalar : IsScalar c
-  is_scalar = let all = scalars-chars (drop i s) (IsUtf8-drop s i u start) in and-first _ _ (rw ahead at all)
+  is_scalar = let all = scalars-chars (drop i s) (IsUtf8-drop s i u start) in (and_parts _ _ (rw ahead at all)).0
 
   before : reverse (chars (take j s)) ≡ c ∷ reverse (chars (take i s))
   before =
@@ -92,7 +91,7 @@ past_list test before rest c e = let more : 1 + prefix_len test rest ≡ suc (pr
 pub past-step : (test : ℕ → Bool) (p : Place) (c : ℕ) → scout 0 p ≡ Some c → test c ≡ true → past test (moved 1 p) ≡ past test p
 past-step test p c e t = grind (arith, head-splits, past_list)
 
-moved-ahead : (n : ℕ) (xs ys : List ℕ) → (moved_from n xs ys).ahead ≡ drop n ys
+pub moved-ahead : (n : ℕ) (xs ys : List ℕ) → (moved_from n xs ys).ahead ≡ drop n ys
 moved-ahead zero xs ys = refl
 moved-ahead (suc n) xs [] = refl
 moved-ahead (suc n) xs (c ∷ ys) = moved-ahead n (c ∷ xs) ys
@@ -140,12 +139,12 @@ front-range s j = let same : j ≡ j - 0 = omega arith in ap (λ n. take n s) sa
 
 -- ---- words
 
-moved-moved : (n : ℕ) (xs ys : List ℕ) → moved 1 (moved_from n xs ys) ≡ moved_from (suc n) xs ys
+pub moved-moved : (n : ℕ) (xs ys : List ℕ) → moved 1 (moved_from n xs ys) ≡ moved_from (suc n) xs ys
 moved-moved zero xs ys = refl
 moved-moved (suc n) xs [] = refl
 moved-moved (suc n) xs (c ∷ ys) = moved-moved n (c ∷ xs) ys
 
-scout-moved : (n : ℕ) (xs ys : List ℕ) → scout 0 (moved_from n xs ys) ≡ slice_get ys n
+pub scout-moved : (n : ℕ) (xs ys : List ℕ) → scout 0 (moved_from n xs ys) ≡ slice_get ys n
 scout-moved zero xs ys = refl
 scout-moved (suc n) xs [] = refl
 scout-moved (suc n) xs (c ∷ ys) = scout-moved n (c ∷ xs) ys
@@ -172,7 +171,7 @@ cursor-le s u i j n start end e =
     let split : encode_utf8_all (take n cs) ++ encode_utf8_all (drop n cs) ≡ encode_utf8_all cs = sym (encodes-append (take n cs) (drop n cs)) ∙ ap encode_utf8_all (take-append-drop n cs) in
     omega (arith, ap length split, length-append (encode_utf8_all (take n cs)) (encode_utf8_all (drop n cs)), ap length whole, ap length part, length-drop i s, length-drop j s, start.0, end.0)
 
--- the same, where the texts are equal
+-- a later place in an equal text, and what is passed up to it
 module _ (a b : List ℕ) (same : b ≡ a) (u : IsUtf8 a) (i j n : ℕ) (start : IsCharBoundary a i) (end : IsCharBoundary b j) (e : place_at b j ≡ moved n (place_at a i)) where
   pub since-le : i ≤ j
   since-le = subst (λ t. IsCharBoundary t j → place_at t j ≡ moved n (place_at a i) → i ≤ j) (sym same) (cursor-le a u i j n start) end e
@@ -186,8 +185,8 @@ pub scalars-both : (n : ℕ) (cs : List ℕ) → all_scalars cs ≡ true → (al
 scalars-both zero cs e = (refl, e)
 scalars-both (suc n) [] e = (refl, refl)
 scalars-both (suc n) (c ∷ cs) e =
-    let first : scalar c ≡ true = and-first _ _ e in
-    let rest = scalars-both n cs (and-second _ _ e) in
+    let first : scalar c ≡ true = (and_parts _ _ e).0 in
+    let rest = scalars-both n cs (and_parts _ _ e).1 in
     (rw (first, rest.0) refl, rest.1)
 
 abbrev pub at_place : List ℕ → List ℕ → Place

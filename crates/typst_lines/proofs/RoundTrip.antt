@@ -5,6 +5,7 @@ use mathlib.Core.List.{reverse_aux}
 use Rattle.typst_lines.proofs.LineTable.{units-append, bytes-append, bytes-front, units-front, bytes-text, chars-split, chars-range, utf16_len-positive, place-end, bytes-step}
 use Rattle.typst_lines.proofs.PlaceLemmas.{head-splits}
 use Rattle.typst_lines.proofs.TableOrder.{table-sound, table-next, line_of-next}
+use Rattle.std.proofs.lemmas.Bool.{and_right}
 
 -- the units up to j are those up to i and those between
 pub units-range : (s : List ℕ) → IsUtf8 s → (i j : ℕ) → i ≤ j → IsCharBoundary s i → IsCharBoundary s j → utf16_before s i + units (chars (slice_range s i j)) ≡ utf16_before s j
@@ -260,15 +261,12 @@ module _ (s t : List ℕ) (v : IsUtf8 t) (same : t ≡ s) (u : ℕ) where
 pub none-from : (o : Option ℕ) → true ≡ is_none o → None ≡ o
 none-from o e = grind arith
 
-and-right : (a b : Bool) → b ≡ false → (a && b) ≡ false
-and-right a b e = grind arith
-
 some-long : (cs : List ℕ) → false ≡ is_none (slice_get cs 0) → (length cs == 0) ≡ false
 some-long [] e = absurd (cc)
 some-long (c ∷ cs) e = grind (arith, nat_tests)
 
 pub overshot-some : (u : ℕ) (p : Place) → false ≡ is_none (scout 0 p) → overshot u p ≡ false
-overshot-some u p e = and-right (nat_lt u (units p.before)) (length p.ahead == 0) (some-long p.ahead e)
+overshot-some u p e = and_right (nat_lt u (units p.before)) (length p.ahead == 0) (some-long p.ahead e)
 
 pub overshot-low : (u : ℕ) (p : Place) → units p.before ≤ u → overshot u p ≡ false
 overshot-low u p le = rw (not-past u (units p.before) 0 le) refl

@@ -1,5 +1,5 @@
 -- The stretches between line ends, and that they make the text with the line ends put back.
-use Rattle.typst_lines.proofs.Cited.{◌≡◌, Bool, length, ℕ, ◌+◌, ◌&&◌, ◌==◌, if◌then◌else◌, List, [], ◌∷◌, ◌++◌, slice_get, Option, Some, None, refl, sym, ap, ◌∙◌, true, false, arith, take, append_assoc, append-nil, take_at, length-append, map, Bor, nat_tests, chars, is_newline, ends_line, line_end_len, stretches, line_ends, onto_first, woven, all_lack_newlines, Place, moved, moved_from, scout, passes}
+use Rattle.typst_lines.proofs.Cited.{◌≡◌, Bool, length, ℕ, ◌+◌, ◌&&◌, ◌==◌, if◌then◌else◌, List, [], ◌∷◌, ◌++◌, slice_get, Some, None, refl, sym, ap, ◌∙◌, true, false, arith, take, append_assoc, append-nil, take_at, length-append, map, Bor, chars, is_newline, ends_line, line_end_len, stretches, line_ends, onto_first, woven, all_lack_newlines, Place, moved, moved_from, scout, passes}
 use Rattle.typst_lines.proofs.LineTable.{place-end}
 use Rattle.typst_lines.proofs.PlaceLemmas.{moved-step}
 use Rattle.typst_lines.proofs.CommonEnds.{ahead-step}
@@ -36,23 +36,17 @@ since-more p q r c h e m =
 pub since-text : (p q : Place) (h : Since p q) → take (length h.passed) p.ahead ≡ h.passed
 since-text p q h = ap (take (length h.passed)) h.ahead ∙ take_at h.passed q.ahead (length h.passed) refl
 
-no-end : (c : ℕ) (next : Option ℕ) → is_newline c ≡ false → ends_line c next ≡ false
-no-end c next e = rw e refl
-
-plain-stretch : (c : ℕ) (cs : List ℕ) → is_newline c ≡ false → stretches (c ∷ cs) ≡ onto_first c (stretches cs)
-plain-stretch c cs e = rw (no-end c (slice_get cs 0) e, e) refl
+pub plain-stretch : (c : ℕ) (cs : List ℕ) → is_newline c ≡ false → stretches (c ∷ cs) ≡ onto_first c (stretches cs)
+plain-stretch c cs e = rw e refl
 
 pub glued-plain : (xs : List ℕ) (q r : Place) (c : ℕ) → Some c ≡ scout 0 q → r ≡ moved 1 q → is_newline c ≡ false → glued xs (stretches q.ahead) ≡ glued (xs ++ c ∷ []) (stretches r.ahead)
 glued-plain xs q r c e m plain = grind (arith, ahead-step, plain-stretch, glued-onto)
 
 -- a carriage return that a line feed follows
-abbrev crlf : ℕ → List ℕ → Bool
+abbrev pub crlf : ℕ → List ℕ → Bool
 crlf c rest = c == 13 && passes (λ d. d == 10) (slice_get rest 0)
 
-ten : (d : ℕ) → (d == 10) ≡ true → d ≡ 10
-ten d t = grind (arith, nat_tests)
-
-lone-stretch : (c : ℕ) (rest : List ℕ) → is_newline c ≡ true → crlf c rest ≡ false → stretches (c ∷ rest) ≡ [] ∷ stretches rest
+pub lone-stretch : (c : ℕ) (rest : List ℕ) → is_newline c ≡ true → crlf c rest ≡ false → stretches (c ∷ rest) ≡ [] ∷ stretches rest
 lone-stretch c rest n e = rw (n, e) refl
 
 -- behind a line end
@@ -62,7 +56,7 @@ behind_end b before ahead = (moved_from (if b then 2 else 1) before ahead).ahead
 end-cases : (c : ℕ) (rest before : List ℕ) (b : Bool) → crlf c rest ≡ b → is_newline c ≡ true → stretches (c ∷ rest) ≡ [] ∷ stretches (behind_end b before (c ∷ rest))
 end-cases c rest before b e n = grind arith
 
-line-end-is : (q : Place) (c : ℕ) (rest : List ℕ) → q.ahead ≡ c ∷ rest → is_newline c ≡ true → line_end_len q ≡ (if crlf c rest then 2 else 1)
+pub line-end-is : (q : Place) (c : ℕ) (rest : List ℕ) → q.ahead ≡ c ∷ rest → is_newline c ≡ true → line_end_len q ≡ (if crlf c rest then 2 else 1)
 line-end-is q c rest e n = rw (e, n) refl
 
 -- over a line end
@@ -89,13 +83,13 @@ stretches-some (c ∷ cs) = pick-some (ends_line c (slice_get cs 0)) (is_newline
 woven-onto : (c : ℕ) (texts ends : List (List ℕ)) → IsSome_first texts → woven (onto_first c texts) ends ≡ c ∷ woven texts ends
 woven-onto c texts ends h = grind arith
 
-plain-ends : (c : ℕ) (cs : List ℕ) → is_newline c ≡ false → line_ends (c ∷ cs) ≡ line_ends cs
-plain-ends c cs e = rw (no-end c (slice_get cs 0) e, e) refl
+pub plain-ends : (c : ℕ) (cs : List ℕ) → is_newline c ≡ false → line_ends (c ∷ cs) ≡ line_ends cs
+plain-ends c cs e = rw e refl
 
-both-ends : (c : ℕ) (left : List ℕ) → is_newline c ≡ true → crlf c (10 ∷ left) ≡ true → line_ends (c ∷ 10 ∷ left) ≡ (c ∷ 10 ∷ []) ∷ line_ends left
+pub both-ends : (c : ℕ) (left : List ℕ) → is_newline c ≡ true → crlf c (10 ∷ left) ≡ true → line_ends (c ∷ 10 ∷ left) ≡ (c ∷ 10 ∷ []) ∷ line_ends left
 both-ends c left n e = rw (n, e) refl
 
-lone-ends : (c : ℕ) (rest : List ℕ) → is_newline c ≡ true → crlf c rest ≡ false → line_ends (c ∷ rest) ≡ (c ∷ []) ∷ line_ends rest
+pub lone-ends : (c : ℕ) (rest : List ℕ) → is_newline c ≡ true → crlf c rest ≡ false → line_ends (c ∷ rest) ≡ (c ∷ []) ∷ line_ends rest
 lone-ends c rest n e = rw (n, e) refl
 
 abbrev PutBack : List ℕ → Type 0
@@ -114,7 +108,7 @@ back-cases c d cs true true n b h k = grind arith
 back-cases c d cs true false n b h k = lone-back c (d ∷ cs) n b h
 back-cases c d cs false b n e h k = plain-back c (d ∷ cs) n h
 
-and-none : (b : Bool) → (b && false) ≡ false
+pub and-none : (b : Bool) → (b && false) ≡ false
 and-none b = grind arith
 
 last-back : (c : ℕ) (n : Bool) → is_newline c ≡ n → PutBack (c ∷ [])

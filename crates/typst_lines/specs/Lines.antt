@@ -135,7 +135,7 @@ common_ends old new =
     let end = common_front (reverse (drop (length front) (chars old))) (reverse (drop (length front) (chars new))) in
     (bytes front, bytes end)
 
--- so many bytes are the longest common front of two texts
+-- a number of bytes is the length of the longest common front of two texts
 pub record IsCommonFront (old new : List ℕ) (n : ℕ) : Type 0 where
   pub size : n ≡ bytes (common_front (chars old) (chars new))
   pub old_boundary : IsCharBoundary old n

@@ -19,9 +19,6 @@ pub record IsPrefix (p : ℕ → Bool) (xs : List ℕ) (n : ℕ) : Type 0 where
   pub passes : (k : ℕ) → k < n → p (get_or xs k 0) ≡ true
   pub stops : n < length xs → p (get_or xs n 0) ≡ false
 
-one-add : (n : ℕ) → 1 + n ≡ suc n
-one-add n = omega arith
-
 prefix-cons : (p : ℕ → Bool) (t : Bool) (x : ℕ) (xs : List ℕ) (n : ℕ) → p x ≡ t → IsPrefix p xs n → IsPrefix p (x ∷ xs) (cond t (1 + n) 0)
 prefix-cons p t x xs n e h = grind arith
 

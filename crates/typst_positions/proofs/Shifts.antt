@@ -4,7 +4,7 @@ use Rattle.std.specs.declared.ops.Range.{Range}
 use Rattle.typst_positions.proofs.Holding.{count-between, passing, passing-is}
 use Rattle.typst_positions.proofs.Tables.{between-moved, between-same, between-split}
 
-starts-alike : (t u : List ℕ) (a b : ℕ) → get_or t a 0 ≡ get_or u b 0 → get_or t (suc a) 0 ≡ get_or u (suc b) 0 → starts_line t (suc a) ≡ starts_line u (suc b)
+pub starts-alike : (t u : List ℕ) (a b : ℕ) → get_or t a 0 ≡ get_or u b 0 → get_or t (suc a) 0 ≡ get_or u (suc b) 0 → starts_line t (suc a) ≡ starts_line u (suc b)
 starts-alike t u a b e f = grind arith
 
 -- a number moved by a distance that wraps round is as far after `to` as it was after `from`, where 64 bits hold that

@@ -31,7 +31,7 @@ fits size by most c cs h = ap (λ b. cond b (size c + measured size by (most - b
 stops : (size by : ℕ → ℕ) (most c : ℕ) (cs : List ℕ) → most < by c → measured size by most (c ∷ cs) ≡ 0
 stops size by most c cs h = ap (λ b. cond b (size c + measured size by (most - by c) cs) 0) (lt-leb (by c) most h)
 
--- the same in a list of characters from an index on
+-- one character more in a list of characters, from an index on
 pub measured-more : (size by : ℕ → ℕ) (most : ℕ) (cs : List ℕ) (n c : ℕ) → (n < length cs) × (c ≡ get_or cs n c) → by c ≤ most → measured size by most (drop n cs) ≡ size c + measured size by (most - by c) (drop (n + 1) cs)
 measured-more size by most cs n c at h =
     at_drop_more (measured size by most) cs n c at.0

@@ -1,15 +1,15 @@
 -- The names that many of these proofs cite, passed on from one place. Declares nothing.
-pub use Rattle.std.proofs.Common.{Bool, Err, IfSome, List, MatchResult, None, Ok, OnOk, Option, Result, Some, [], add-one, ap, append-nil, append_assoc, arith, codes, cond, drop, drop-drop, drop_at, false, get_or, get_or-drop, get_or-set_other, get_or-set_same, inl, inr, le-ltb, le_refl, length, length-append, length-drop, length-set, length-take-le, lt-ltb, ltb-true, min, nat_lt, not, option_to_list, refl, rules, set, slice_range, subst, suc, sym, take, take-add, take-append-drop, take_all, take_at, true, zero, ℕ, ◌&&◌, ◌*◌, ◌++◌, ◌+◌, ◌-◌, ◌<◌, ◌==◌, ◌^◌, ◌∙◌, ◌∷◌, ◌≡◌, ◌≢◌, ◌≤◌}
+pub use Rattle.std.proofs.Common.{Bool, Err, IfSome, List, MatchResult, None, Ok, OnOk, Option, Result, Some, [], add-one, ap, append-nil, append_assoc, arith, codes, cond, drop, drop-drop, drop_at, false, get_or, get_or-drop, get_or-set_other, get_or-set_same, le-ltb, le_refl, length, length-append, length-drop, length-set, length-take-le, lt-ltb, ltb-true, min, nat_lt, not, option_to_list, refl, rules, set, slice_range, subst, suc, sym, take, take-add, take-append-drop, take_all, take_at, true, zero, ℕ, ◌&&◌, ◌*◌, ◌++◌, ◌+◌, ◌-◌, ◌<◌, ◌==◌, ◌^◌, ◌∙◌, ◌∷◌, ◌≡◌, ◌≢◌, ◌≤◌}
 pub use Rattle.std.proofs.KnownBytes.{Appends-kept, Appends-trans, Consumes-trans}
-pub use Rattle.std.proofs.lemmas.Bool.{and_left, and_parts, and_right, cases_lt, cond-false, eqb-true, false_from_ne_true, false≢true, ne_eqb, or_from}
+pub use Rattle.std.proofs.lemmas.Bool.{and_left, and_parts, and_right, cond-false, eqb-true, false_from_ne_true, false≢true, ne_eqb, or_from}
 pub use Rattle.std.proofs.lemmas.Grind.{common_steps}
-pub use Rattle.std.proofs.lemmas.List.{drop_all, get_or_past, take_rest}
+pub use Rattle.std.proofs.lemmas.List.{drop_all, take_rest}
 pub use Rattle.std.proofs.lemmas.Result.{err_from_is_err_and}
 pub use Rattle.std.proofs.lemmas.Str.Parse.{IsNumeralModel, digit_at, digit_from_value, numerals_by_value, tells_all_ascii_digits, without_leading_plus_none}
 pub use Rattle.std.specs.Io.KnownBytes.{Appends, Consumes, IsAtEnd, Keeps}
 pub use Rattle.std.specs.Option.{ok_or}
 pub use Rattle.std.specs.Prelude.{IfNone, decimal, option_map, reverse, ⊤}
-pub use Rattle.std.specs.Str.{IsAscii, IsUtf8, all_ascii_digits, bytes_eq}
+pub use Rattle.std.specs.Str.{IsUtf8, all_ascii_digits, bytes_eq}
 pub use Rattle.std.specs.Str.Parse.{AllDigits, IsNumeral, ParsesUnsigned, digits_value, without_leading_plus}
 pub use Rattle.serde.specs.Event.{Log, Logs, Sends, Then, map_begins, map_ends, text, unsigned}
 pub use Rattle.serde_json.specs.View.{items_view}

@@ -1,6 +1,7 @@
 -- Numbers that digits write.
-use Rattle.typst_protocol.proofs.Cited.{◌≡◌, ◌≢◌, ℕ, ◌<◌, ◌^◌, true, ◌&&◌, nat_lt, List, length, get_or, Some, None, Result, MatchResult, Ok, Err, sym, ap, subst, arith, lt-ltb, ltb-true, inl, inr, and_parts, cases_lt, cond-false, false_from_ne_true, get_or_past, IsAscii, IsUtf8, all_ascii_digits, number, IsNumeralModel, digit_at, numerals_by_value, tells_all_ascii_digits, without_leading_plus_none, AllDigits, IsNumeral, ParsesUnsigned, digits_value, without_leading_plus}
+use Rattle.typst_protocol.proofs.Cited.{◌≡◌, ◌≢◌, ℕ, ◌<◌, ◌^◌, true, ◌&&◌, nat_lt, List, length, get_or, Some, None, Result, MatchResult, Ok, Err, sym, ap, subst, lt-ltb, ltb-true, and_parts, cond-false, false_from_ne_true, IsUtf8, all_ascii_digits, number, IsNumeralModel, numerals_by_value, tells_all_ascii_digits, without_leading_plus_none, IsNumeral, ParsesUnsigned, digits_value, without_leading_plus}
 use Rattle.std.proofs.lemmas.Str.{IsUtf8-from_ascii}
+use Rattle.std.proofs.lemmas.Fmt.{IsAscii-from_digits}
 
 pub own : IsNumeralModel (λ ds. all_ascii_digits ds ≡ true) (digits_value 10)
 own = numerals_by_value (λ ds. all_ascii_digits ds ≡ true) tells_all_ascii_digits
@@ -20,13 +21,10 @@ parsed w (Err e) plain h = cond-false _ _ _ (false_from_ne_true _ (λ all.
 pub number-parsed : {E : Type 0} (w : List ℕ) (r : Result ℕ E) → get_or w 0 0 ≢ 43 → ParsesUnsigned 64 10 w r → MatchResult r (λ n. number w ≡ Some n) (λ _. number w ≡ None)
 number-parsed w r plain h = parsed w r (without_leading_plus_none w plain) h
 
-ascii : (w : List ℕ) → AllDigits 10 w → IsAscii w
-ascii w all i = elim (cases_lt i (length w)) [ inl within ↦ omega (arith, (digit_at w i all within).1) | inr past ↦ rw (get_or_past w i 0 past) (omega arith) ]
-
 -- what isn't UTF-8 is no number
 pub number-none : (w : List ℕ) → ¬ (IsUtf8 w) → number w ≡ None
 number-none w bad =
     let digits = nat_lt 0 (length w) && all_ascii_digits w in
     let small = nat_lt (digits_value 10 w) (2 ^ 64) in
     cond-false (digits && small) (Some (digits_value 10 w)) None (false_from_ne_true (digits && small) (λ all.
-    bad (IsUtf8-from_ascii w (ascii w (own.to w (and_parts (nat_lt 0 (length w)) (all_ascii_digits w) (and_parts digits small all).0).1)))))
+    bad (IsUtf8-from_ascii w (IsAscii-from_digits w (own.to w (and_parts (nat_lt 0 (length w)) (all_ascii_digits w) (and_parts digits small all).0).1)))))

@@ -12,7 +12,7 @@ pub record Stream : Type 0 where
   pub left : Option (List ℕ)
   pub end : Option End
 
--- so many bytes has the longest body that is read
+-- how many bytes the longest body has that is read
 abbrev pub longest : ℕ
 longest = 0x400_0000
 

@@ -9,11 +9,11 @@ abbrev pub with_file : Tally → ℕ → ℕ → Tally
 with_file t errors findings =
     record t { files = saturated (t.files + 1); errors = saturated (t.errors + errors); warnings = saturated (t.warnings + (findings - errors)) }
 
--- the ending of a word for so many
+-- the ending of a word for a number of things
 abbrev pub plural : ℕ → List ℕ
 plural n = if n == 1 then [] else codes "s"
 
--- so many of what a word says
+-- a number and the word for what is counted, which ends in s unless the number is 1
 abbrev pub counted : ℕ → List ℕ → List ℕ
 counted n word = decimal n ++ (codes " " ++ (word ++ plural n))
 

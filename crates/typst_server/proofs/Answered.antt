@@ -1,18 +1,11 @@
 -- From what a body says to what may be done about it.
-use Rattle.typst_server.proofs.Cited.{◌≡◌, ℕ, List, Some, option_and_then, inl, inr, subst, sym, arith, Data, Encoding, methods, named, IsAnswer, IsAsked, IsReplyTo, method_of, told_by, IsKnownAfter, IsLeft, IsLeftBy, IsTold, IsWarned, LeavesSo, Loses, loss_of, Responds, allowed, Gives, Tells, Documents, Reply, Server, Standing, IsMessage, IsRequest, IsUnread, IsUnreadBody, babbles, meant, said, Unread, LosesAll, LosesMeant, IsSentAfter, IsSentBy}
+use Rattle.typst_server.proofs.Cited.{◌≡◌, ℕ, List, Some, inl, inr, subst, sym, arith, Data, Encoding, IsAnswer, IsReplyTo, IsKnownAfter, IsLeft, IsLeftBy, IsWarned, Loses, loss_of, Documents, Reply, Server, Standing, IsMessage, IsUnread, IsUnreadBody, babbles, meant, said, Unread, LosesAll, LosesMeant, IsSentAfter, IsSentBy}
 use Rattle.serde_json.specs.Read.{read as read_text}
 use Rattle.typst_protocol.specs.Parameters as parameters
 use Rattle.typst_protocol.specs.declared.message.Message.{Message}
 use Rattle.typst_protocol.specs.declared.message.Message.TheVariants as message
-use Rattle.typst_protocol.specs.declared.message.Request.{Request}
 use Rattle.typst_protocol.specs.declared.refusal.Unread.TheVariants as unread
 use Rattle.typst_server.specs.declared.server.Phase.{Phase}
-
--- what a request of the code is answered is what the body is answered that is its JSON
-asked : (old new : Standing) (documents : Documents) (body : List ℕ) (d : Data) (q : Request) (text : List ℕ) → read_text body ≡ Some d → IsRequest d q
-    → Responds (allowed old (named methods q.method.now) (parameters.seen q.params)) old new q.id text
-    → Tells (Gives old.phase old.errors (named methods q.method.now) (parameters.seen q.params) documents) q.id text → IsAsked old new documents body text
-asked old new documents body d q text read meant goes answers = grind arith
 
 -- what may be done about a message may be done about a body that is its JSON
 pub answered : (old new : Standing) (before behind : Documents) (body : List ℕ) (d : Data) (m : Message) (r : Reply) → read_text body ≡ Some d → IsMessage d m → IsReplyTo old new before behind m r
@@ -49,19 +42,6 @@ unnamed_left phase encoding d documents why h other = grind arith
 -- what is no message loses what it may have been meant to change
 pub meant_left : (phase : Phase) (encoding : Encoding) (d : Data) (old new : Documents) → said d ≡ babbles → Loses (meant d) old new → IsLeft (said d) phase encoding d old new
 meant_left phase encoding d old new is h = subst (λ s. IsLeft s phase encoding d old new) (sym is) h
-
--- what a message of the code leaves known is what the body leaves known that is its JSON
-left : (phase : Phase) (encoding : Encoding) (body : List ℕ) (old new : Documents) (d : Data) (m : Message) → read_text body ≡ Some d → IsMessage d m → IsLeftBy m phase encoding old new → LeavesSo phase encoding body old new
-left phase encoding body old new d (message.Request q) read meant same =
-    record { value = d; read = read; left = subst (λ s. IsLeft s phase encoding d old new) (sym meant.asked) same }
-left phase encoding body old new d (message.Notification n) read meant told =
-    let by_name : IsTold phase encoding (option_and_then told_by (method_of d)) (parameters.seen n.params) old new =
-    subst (λ name. IsTold phase encoding (option_and_then told_by name) (parameters.seen n.params) old new) (sym meant.method) told in
-    let by_params : IsTold phase encoding (option_and_then told_by (method_of d)) (parameters.params d) old new =
-    subst (λ p. IsTold phase encoding (option_and_then told_by (method_of d)) p old new) meant.params by_name in
-    record { value = d; read = read; left = subst (λ s. IsLeft s phase encoding d old new) (sym meant.told) by_params }
-left phase encoding body old new d message.Response read meant same =
-    record { value = d; read = read; left = subst (λ s. IsLeft s phase encoding d old new) (sym meant) same }
 
 pub known_after : (phase : Phase) (encoding : Encoding) (body : List ℕ) (old new : Documents) (d : Data) (m : Message) (r : Reply) → read_text body ≡ Some d → IsMessage d m → IsLeftBy m phase encoding old new
     → IsKnownAfter phase encoding body old new r

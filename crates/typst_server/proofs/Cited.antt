@@ -1,5 +1,5 @@
 -- The names that many of these proofs cite, passed on from one place. Declares nothing.
-pub use Rattle.std.proofs.Common.{Bool, Err, Global, IfNone, IfOk, IfSome, IsSomeAnd, List, MatchResult, None, Ok, Option, Result, Some, String, [], add-one, ap, append-nil, append_assoc, arith, codes, cond, drop, drop-cons, drop-drop, drop_at, false, get_or, if◌then◌else◌, inl, inr, is_some, length, length-append, length-drop, length-take, length-take-le, map, min, not, option_and_then, option_map, refl, rules, subst, suc, sym, take, take-append-drop, take-take, take_at, true, zero, ℕ, ◌*◌, ◌++◌, ◌+◌, ◌-◌, ◌<◌, ◌==◌, ◌^◌, ◌||◌, ◌∙◌, ◌∷◌, ◌≡◌, ◌≤◌, ◌⊎◌}
+pub use Rattle.std.proofs.Common.{Bool, Err, Global, IfNone, IfOk, IfSome, List, MatchResult, None, Ok, Option, Result, Some, String, [], ap, append-nil, append_assoc, arith, codes, cond, drop, drop-drop, drop_at, false, get_or, if◌then◌else◌, inl, inr, is_some, length, length-append, length-drop, length-take, length-take-le, map, min, not, one-add, option_and_then, option_map, refl, rules, subst, suc, sym, take, take-append-drop, take-take, take_at, true, zero, ℕ, ◌*◌, ◌++◌, ◌+◌, ◌-◌, ◌<◌, ◌==◌, ◌^◌, ◌||◌, ◌∙◌, ◌∷◌, ◌≡◌, ◌≤◌, ◌⊎◌}
 pub use Rattle.std.proofs.lemmas.Bool.{cases_lt, eq-eqb, le-leb, lt-leb, ne_eqb}
 pub use Rattle.std.proofs.lemmas.Bool.Decides.{nat_tests}
 pub use Rattle.std.proofs.lemmas.Fn.{filter_same}
@@ -36,9 +36,9 @@ pub use Rattle.typst_protocol.proofs.Writing.{begins-after, begins-front, begins
 pub use Rattle.typst_protocol.specs.Addresses.{is_same}
 pub use Rattle.typst_protocol.specs.Bodies.{IsJsonOf, failure, nameless, success, text_of, warning}
 pub use Rattle.typst_protocol.specs.Frames.{written}
-pub use Rattle.typst_protocol.specs.Messages.{IsMessage, IsRequest, IsUnread, IsUnreadBody, babbles, meant, said}
+pub use Rattle.typst_protocol.specs.Messages.{IsMessage, IsUnread, IsUnreadBody, babbles, meant, said}
 pub use Rattle.typst_protocol.specs.Methods.{methods, named}
-pub use Rattle.typst_protocol.specs.Parameters.{edit, includes_label, seen, stretch_in}
+pub use Rattle.typst_protocol.specs.Parameters.{includes_label, seen, stretch_in}
 pub use Rattle.typst_protocol.specs.Stream.{Answers, AnswersAfter, Begins, Passes, Reads, Stream}
 pub use Rattle.typst_protocol.specs.Written.{WritesReport, WritesTokens}
 pub use Rattle.typst_protocol.specs.declared.method.Method.{Method}
@@ -48,9 +48,9 @@ pub use Rattle.typst_protocol.specs.declared.refusal.Refusal.{Refusal}
 pub use Rattle.typst_protocol.specs.declared.refusal.Refusal.TheVariants.{BadParameters, OutOfMemory}
 pub use Rattle.typst_protocol.specs.declared.refusal.Unread.{Unread}
 pub use Rattle.typst_protocol.specs.declared.values.Tokens.{Tokens}
-pub use Rattle.typst_server.specs.Answers.{IsAnswer, IsAsked, IsReplyTo, TakesEvent, method_of, told_by}
-pub use Rattle.typst_server.specs.Documents.{IsMissing, IsUnknown, Keeps, KeepsOthers, Knows, after, found, is_known, is_named, known, next}
-pub use Rattle.typst_server.specs.Left.{AreSame, AreUnknown, IsKnownAfter, IsLeft, IsLeftBy, IsTold, IsWarned, LeavesSo, Loses, LosesNone, loss_of}
+pub use Rattle.typst_server.specs.Answers.{IsAnswer, IsReplyTo, TakesEvent}
+pub use Rattle.typst_server.specs.Documents.{IsMissing, IsUnknown, Keeps, KeepsOthers, Knows, after, found, is_known, is_named, known}
+pub use Rattle.typst_server.specs.Left.{AreSame, AreUnknown, IsKnownAfter, IsLeft, IsLeftBy, IsWarned, Loses, LosesNone, loss_of}
 pub use Rattle.typst_server.specs.Located.{AreAt, IsHighlightOf, IsLocationOf}
 pub use Rattle.typst_server.specs.Made.{AnswersWith, IsLed, IsOfTokens, IsTaken, SendsAsked, SendsOf, standing_after}
 pub use Rattle.typst_server.specs.Numbers.{IsAdded, Shown, all_shown, clipped, decoded, encoded, five, modifiers_of, number_of, numbers_of, shown, shown_each}
@@ -61,7 +61,7 @@ pub use Rattle.typst_server.specs.Results.{Answer, Gives, Grows, IsAbout, IsOf, 
 pub use Rattle.typst_server.specs.Sent.{InStretch, IsKept, KeepsSent, MayBeKept, MayDrop, TellsTokens, TellsWithin, last_of, sent_of}
 pub use Rattle.typst_server.specs.Sessions.{IsHandled, IsNew, LosesAll, LosesMeant}
 pub use Rattle.typst_server.specs.Tokens.{AsksTokens, DropsSent, IsSentAfter, IsSentBy, KeepsTokens, SameSent, previous}
-pub use Rattle.typst_server.specs.Tracked.{AreTokens, Followed, IsCarriedBy, IsCarriedOver, IsKeptBy, IsLast, IsLastAfter, IsPresent, IsShortened, IsSince, IsTracked, MayStay, SameEnds, Sent, StandSo, StaysKept, TellsSince, WasBefore, ends_by, ends_if, if_named, is_edited, named_last, sent_by, shortened}
+pub use Rattle.typst_server.specs.Tracked.{AreTokens, Followed, IsCarriedBy, IsCarriedOver, IsKeptBy, IsLast, IsLastAfter, IsPresent, IsShortened, IsSince, IsTracked, MayStay, SameEnds, Sent, StaysKept, TellsSince, WasBefore, ends_by, ends_if, if_named, is_edited, named_last, sent_by, shortened}
 pub use Rattle.typst_server.specs.Transcript.{AnswersFrame, AreAnswered, Ends, EndsBy, GoesOn, IsAnswered, IsFirst, IsNoExit, IsReason, IsStatus, Sends, Serves, Turns, WentOut, frames_of, sent, told, transcript, warnings}
 pub use Rattle.typst_server.specs.declared.diagnostics.ShownErrors.{ShownErrors}
 pub use Rattle.typst_server.specs.declared.documents.Documents.{Documents}

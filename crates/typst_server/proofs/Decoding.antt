@@ -27,7 +27,7 @@ AreOrdered line column (s ∷ ss) = After line column s × (IsSmall s × AreOrde
 clipped-small : (n : ℕ) → n < 2 ^ 32 → clipped n ≡ n
 clipped-small n h = omega (arith, h)
 
--- how many columns are told
+-- how many columns are written of a token
 abbrev right_of : ℕ → ℕ → Shown → ℕ
 right_of line column s = s.column - (if s.line == line then column else 0)
 
@@ -36,10 +36,6 @@ start_by same column right = if same then column + right else right
 
 start-back : (line column : ℕ) (s : Shown) → After line column s → start_by (s.line - line == 0) column (right_of line column s) ≡ s.column
 start-back line column s h = grind arith
-
--- a token with what is read behind it
-abbrev placed : ℕ → ℕ → ℕ → ℕ → ℕ → List ℕ → List Shown
-placed line column size kind modifiers rest = record { line = line; column = column; size = size; kind = kind; modifiers = modifiers } ∷ decoded line column rest
 
 after-le : (line column : ℕ) (s : Shown) → After line column s → line ≤ s.line
 after-le line column s h = grind arith

@@ -1,5 +1,5 @@
 -- Numbers of tokens that grow token by token.
-use Rattle.typst_server.proofs.Cited.{◌≡◌, ℕ, suc, ◌+◌, ◌-◌, ◌<◌, ◌≤◌, List, ◌∷◌, ◌++◌, length, drop, get_or, take, Some, Result, IfOk, ap, sym, subst, ◌∙◌, append_assoc, arith, slice_get, drop_more, get_or_from_slice_get, Token, Opened, IsAdded, Shown, encoded, shown, shown_each}
+use Rattle.typst_server.proofs.Cited.{◌≡◌, ℕ, suc, ◌+◌, ◌-◌, ◌<◌, ◌≤◌, List, ◌∷◌, ◌++◌, length, drop, get_or, take, Some, ap, sym, subst, ◌∙◌, append_assoc, arith, slice_get, drop_more, get_or_from_slice_get, Token, Opened, IsAdded, Shown, encoded, shown, shown_each}
 use Rattle.typst_server.specs.declared.tokens.Encoder.{Encoder}
 
 -- the numbers of a token that was added stand before the others
@@ -20,7 +20,3 @@ token-added document ts i end t old new all more within walk is added so_far =
     (λ k. shown_each document.encoding document.source.text (take (left k) (ahead k))) in
     let here : IsAdded old new s = subst (λ (o : Opened). IsAdded old new (shown o.encoding o.source.text t)) walk added in
     added-more old new s rest all here (ap (λ ss. old.numbers.items ++ encoded old.line old.column ss) (sym parts) ∙ so_far)
-
--- what follows for a value
-pub if-ok : {T E : Type 0} (result : Result T E) (P Q : T → Type 0) → ((x : T) → P x → Q x) → IfOk result P → IfOk result Q
-if-ok result P Q f h = grind arith

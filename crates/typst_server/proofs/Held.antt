@@ -53,7 +53,7 @@ sets-named uri xs i d e h named =
       others = λ other far. find_past (is_named other) xs i e d (apart uri other (get_or xs i d) at.1 far) (apart uri other e named far);
     }
 
--- the same where the address stays
+-- an entry is set whose address stays
 pub sets : (uri : List ℕ) (xs : List Entry) (i : ℕ) (d e : Entry) → position (is_named uri) xs ≡ Some i → e.uri ≡ (get_or xs i d).uri → Sets uri xs (set xs i e) (get_or xs i d) e
 sets uri xs i d e h same = sets-named uri xs i d e h (ap (λ a. is_same uri (string_bytes a)) same ∙ (position-Some (is_named uri) xs i d h).1)
 
@@ -75,7 +75,7 @@ set-itself entries i entry is =
       small = entries.small;
     }
 
--- the same where the address is written otherwise
+-- an entry is set whose address is the same, written otherwise
 pub renames-at : (uri : List ℕ) (xs : List Entry) (i : ℕ) (old new : Entry) → Some i ≡ position (is_named uri) xs → old ≡ get_or xs i old → string_bytes new.uri ≡ uri → Sets uri xs (set xs i new) old new
 renames-at uri xs i old new h is same =
     subst (λ o. Sets uri xs (set xs i new) o new) (sym is) (sets-named uri xs i old new (sym h) (ap (is_same uri) same ∙ same-self uri))
@@ -212,7 +212,7 @@ loses_none uri old new others here = λ other lost. loses-by uri other old new (
 pub drop-both : (a b c : Option Sent) → MayDrop a b → MayDrop b c → MayDrop a c
 drop-both a b c h g = grind arith
 
--- ---- losses that are told
+-- ---- losses that are reported
 
 pub warned_none : (lost : Option Loss) (old new : Documents) → lost ≡ None → LosesNone old new → IsWarned lost old new
 warned_none lost old new is h = subst (λ l. IsWarned l old new) (sym is) h

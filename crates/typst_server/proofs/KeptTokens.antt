@@ -1,5 +1,5 @@
 -- The tokens that are kept with a document, from one time that they are asked for to the next.
-use Rattle.typst_server.proofs.Cited.{◌≡◌, ℕ, ◌-◌, ◌*◌, ◌^◌, ◌≤◌, Bool, cond, min, List, length, Option, None, Some, is_some, option_and_then, option_map, Result, IfOk, refl, ap, sym, subst, ◌∙◌, arith, result_ok, Range, IsReadAgain, Opened, all_bytes, Tree, Encoding, tokens_in, IsOfBoth, IsWindow, range_of, Token, encoded, numbers_of, shown_each, AreTokens, Followed, IsCarriedBy, IsCarriedOver, IsKeptBy, IsLast, IsLastAfter, IsPresent, IsShortened, IsSince, IsTracked, MayStay, SameEnds, StandSo, StaysKept, TellsSince, WasBefore, ends_by, ends_if, if_named, is_edited, sent_by, shortened, Kept, AreOutside, AreRenewed, IsOutside, window_shift, Carried}
+use Rattle.typst_server.proofs.Cited.{◌≡◌, ℕ, ◌-◌, ◌*◌, ◌^◌, ◌≤◌, min, List, length, Option, None, Some, is_some, option_and_then, option_map, Result, IfOk, refl, ap, sym, subst, ◌∙◌, arith, result_ok, Range, IsReadAgain, Opened, all_bytes, Tree, Encoding, tokens_in, IsOfBoth, IsWindow, range_of, Token, encoded, numbers_of, shown_each, Followed, IsCarriedBy, IsCarriedOver, IsKeptBy, IsLast, IsLastAfter, IsPresent, IsShortened, IsSince, IsTracked, MayStay, SameEnds, StaysKept, TellsSince, WasBefore, ends_by, ends_if, if_named, is_edited, sent_by, shortened, Kept, AreOutside, AreRenewed, IsOutside, window_shift, Carried}
 use Rattle.typst_document.specs.Headline.{Headline}
 use Rattle.typst_document.specs.UnicodeTables.{unicode_classes}
 use Rattle.typst_styles.specs.declared.renewed.Outside.{Outside}
@@ -25,9 +25,6 @@ since_if : (document : Opened) (kept : Option Kept) (last : Last) → IsTracked 
 since_if document None last w = w
 since_if document (Some kept) last w = since_read w.was document kept.read last w.of.since w.last
 
-told_by : (document : Opened) (edited : Bool) (last : Last) (test : Bool) → IsSince document last.of.value (ends_if edited last.ends) → TellsSince document (cond test (Some (sent_by last)) None) (cond test (Some (ends_if edited last.ends)) None)
-told_by document edited last test h = grind arith
-
 told_of : (document : Opened) (kept : Option Kept) (last : Option Last) (name : List ℕ) → IsTracked document kept last → TellsSince document (if_named name (option_map sent_by last)) (option_and_then (ends_by name (is_edited kept)) last)
 told_of document kept last name h = grind (arith, since_if)
 
@@ -41,9 +38,6 @@ told_since now document kept last name ends document_is sent_is tracked ends_are
 -- where no edit came they are of the present document
 present_read : (was document : Opened) (read : Option (Range ℕ)) → read ≡ None → WasBefore was document read → was ≡ document
 present_read was document read none is = subst (WasBefore was document) none is
-
-pub at_hand : (document : Opened) (kept : Kept) (last : Option Last) → kept.read ≡ None → StandSo document kept last → AreTokens document (Some kept.tokens)
-at_hand document kept last none w = subst (λ (d : Opened). AreTokens d (Some kept.tokens)) (present_read w.was document kept.read none w.of.since) w.of.tokens
 
 -- tokens of the present document stand as it does to those that were sent last
 pub present_stand : (document : Opened) (kept : Option Kept) (last : Option Last) → IsPresent document kept → IsLast document last → IsTracked document kept last

@@ -14,7 +14,7 @@
 --   Documents: enter, close                     Held: unknown-in, others-in, sent-in; none-left, others-left, drop-left
 --   Documents: lose_all, knows_any              Held: lost-more, lost-in, lost-sent-in; unknown-more, unknown-in-all
 --   Documents: open, make_all                   Held: knows-unknown; drop-both; Texts: Made: change by change
---   Tracked: tokens, since, keep                KeptTokens: at_hand; told_since
+--   Tracked: tokens, since, keep                KeptTokens: told_since
 --   Tracked: renew, changed                     KeptTokens: carried_stand; stays_stand, dropped_stand
 --   Kept::after                                 KeptTokens: through_first, through_later
 --   carried_over                                KeptTokens: all_carried

@@ -1,5 +1,5 @@
 -- What stands at ranges, one after the other.
-use Rattle.typst_server.proofs.Cited.{◌≡◌, ℕ, ◌+◌, ◌<◌, ◌≤◌, List, [], ◌∷◌, ◌++◌, length, take, get_or, Option, Result, IfOk, IsSomeAnd, String, ap, sym, subst, arith, map_more, take_all, Range, string_bytes, Data, Occurrence, Position, Opened, AreAt, AtPosition, occurrences, map}
+use Rattle.typst_server.proofs.Cited.{◌≡◌, ℕ, ◌+◌, ◌<◌, ◌≤◌, List, [], ◌∷◌, ◌++◌, length, take, get_or, Option, Result, IfOk, String, ap, sym, subst, arith, map_more, take_all, Range, string_bytes, Data, Occurrence, Opened, AreAt, AtPosition, occurrences, map}
 use Rattle.std.specs.declared.alloc.Global.{Global}
 
 -- one more stands at the next range
@@ -17,11 +17,7 @@ located_more Is range_of found xs i d x within h one =
 pub located_all : {A B : Type 0} (Is : Range ℕ → A → Type 0) (range_of : B → Range ℕ) (found : List B) (xs : List A) (i : ℕ) → length found ≤ i → AreAt Is (map range_of (take i found)) xs → AreAt Is (map range_of found) xs
 located_all Is range_of found xs i past h = subst (λ ys. AreAt Is ys xs) (ap (map range_of) (take_all i found past)) h
 
--- what holds of the byte of a position
-at_same : (o : Option Position) (P Q : Position → Type 0) → ((p : Position) → P p → Q p) → IsSomeAnd o P → IsSomeAnd o Q
-at_same o P Q f h = grind arith
-
--- what is told of the occurrences that were found is told of those at the position
+-- what is said of the occurrences that were found is said of those at the position
 pub told_at : {E : Type 0} (params : Option Data) (document : Opened) (pick : List Occurrence → List (Range ℕ)) (os : List Occurrence) (Tell : List (Range ℕ) → List ℕ → Type 0) (result : Result (String Global) E)
     → AtPosition params document (λ b. os ≡ occurrences document b) → IfOk result (λ text. Tell (pick os) (string_bytes text)) → IfOk result (λ text. AtPosition params document (λ b. Tell (pick (occurrences document b)) (string_bytes text)))
 told_at params document pick os Tell result at h = grind arith

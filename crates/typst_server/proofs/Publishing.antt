@@ -19,12 +19,12 @@ pub published-more : (document : Opened) (found : List features.Problem) (ps : L
 published-more document found ps i d p within h one =
     subst (λ rs. ArePublished document rs (ps ++ p ∷ [])) (sym (map_more reported found i d within)) (one-more document (map reported (take i found)) ps (reported (get_or found i d)) p h one)
 
--- what is told of the document that parameters name
+-- what is reported of the document that parameters name
 pub takes_news : (old new : Standing) (params : Option Data) (documents : Documents) (uri : List ℕ) (answer : Reply) → old.phase ≡ Running → new ≡ old → parameters.uri params ≡ Some uri
     → IsNewsReply new.errors (found uri documents) uri (parameters.version params) answer → TakesEvent old new params documents answer
 takes_news old new params documents uri answer phase same named h = grind arith
 
--- one notification is told that was made
+-- one notification that was made is sent
 pub told_news : (which : ShownErrors) (known : Option (Option Opened)) (uri : List ℕ) (version : Option ℤ) (made : Result (String Global) Refusal) (answer : Reply)
     → IfOk made (λ text. IsNews which known uri version (string_bytes text)) → IsToldOf made answer → IsNewsReply which known uri version answer
 told_news which known uri version made answer h told = grind arith

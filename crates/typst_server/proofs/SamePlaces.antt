@@ -1,8 +1,9 @@
 -- Positions of two texts that are the same up to a line's start, or from one on.
-use Rattle.typst_server.proofs.Cited.{◌≡◌, ℕ, zero, suc, ◌+◌, ◌-◌, ◌<◌, ◌≤◌, Bool, true, false, not, cond, min, List, [], ◌∷◌, ◌++◌, length, map, take, drop, get_or, refl, ap, sym, ◌∙◌, arith, length-append, length-drop, length-take-le, le-leb, lt-leb, prefix_len, line_of, position_of, Encoding, Position, column_of, is_line_end, line_at, line_starts, starts_between, starts_line, held, position-is}
+use Rattle.typst_server.proofs.Cited.{◌≡◌, ℕ, zero, suc, ◌+◌, ◌-◌, ◌<◌, ◌≤◌, Bool, true, false, not, cond, min, List, [], ◌∷◌, ◌++◌, length, map, take, drop, get_or, refl, ap, sym, ◌∙◌, arith, length-append, length-drop, length-take-le, le-leb, lt-leb, prefix_len, line_of, position_of, Encoding, Position, column_of, is_line_end, line_at, line_starts, starts_between, starts_line, held, position-is, one-add}
 use Rattle.std.proofs.lemmas.List.{drop-drop, get_or-drop, get_or-take, length-map, take-append-drop, drop-append-le}
 use Rattle.typst_positions.proofs.Holding.{count-between, ends-last, last-le, last_start}
 use Rattle.typst_positions.proofs.Tables.{between-moved, between-one, between-same, between-split}
+use Rattle.typst_positions.proofs.Shifts.{starts-alike}
 
 -- how many lines start up to a byte
 abbrev pub lines_to : List ℕ → ℕ → ℕ
@@ -11,9 +12,6 @@ lines_to text byte = length (starts_between text 0 byte)
 line_is : (text : List ℕ) (byte : ℕ) → byte ≤ length text → line_of text byte ≡ lines_to text byte - 1
 unfolding line_starts
 line_is text byte h = grind (arith, count-between, le-leb, lt-leb)
-
-starts_alike : (t u : List ℕ) (a b : ℕ) → get_or t a 0 ≡ get_or u b 0 → get_or t (suc a) 0 ≡ get_or u (suc b) 0 → starts_line t (suc a) ≡ starts_line u (suc b)
-starts_alike t u a b e f = grind arith
 
 -- the position of a byte, by where the last line up to it starts
 place_of : (e : Encoding) (text : List ℕ) (byte : ℕ) → byte ≤ length text → (let p : Position = record { line = lines_to text byte - 1; column = column_of e (line_at text (last_start text byte)) (byte - last_start text byte) } in p) ≡ position_of e text byte
@@ -43,7 +41,7 @@ module _ (t u : List ℕ) (b c : ℕ) (w : SameBehind t u b c) where
 
   starts_same : (k : ℕ) → starts_line t (b + k) ≡ starts_line u (c + k)
   starts_same zero = grind arith
-  starts_same (suc k) = let one : b + suc k ≡ suc (b + k) = omega arith in grind (arith, starts_alike, got)
+  starts_same (suc k) = let one : b + suc k ≡ suc (b + k) = omega arith in grind (arith, starts-alike, got)
 
   record Last (k : ℕ) : Type 0 where
     low : b ≤ last_start t (b + k)
@@ -51,9 +49,6 @@ module _ (t u : List ℕ) (b c : ℕ) (w : SameBehind t u b c) where
 
   last_choice : (p q : Bool) (k m n : ℕ) → p ≡ q → b ≤ m → n + b ≡ m + c → (b ≤ cond p (suc (b + k)) m) × (cond q (suc (c + k)) n + b ≡ cond p (suc (b + k)) m + c)
   last_choice p q k m n e l g = grind arith
-
-  last_first : (p : Bool) (a n : ℕ) → p ≡ true → cond p (suc a) n ≡ suc a
-  last_first p a n e = grind arith
 
   last_same : (k : ℕ) → Last k
   last_same zero =
@@ -140,11 +135,8 @@ module _ (t u : List ℕ) (b c : ℕ) (w : SameBehind t u b c) where
 
 -- ---- up to a line's start
 
-one_add : (n : ℕ) → 1 + n ≡ suc n
-one_add n = omega arith
-
 until_step : (b : Bool) (x m n : ℕ) (xs ys : List ℕ) → take m xs ≡ take n ys → take (cond b (1 + m) 0) (x ∷ xs) ≡ take (cond b (1 + n) 0) (x ∷ ys)
-until_step true x m n xs ys e = ap (λ k. take k (x ∷ xs)) (one_add m) ∙ (ap (λ zs. x ∷ zs) e ∙ sym (ap (λ k. take k (x ∷ ys)) (one_add n)))
+until_step true x m n xs ys e = ap (λ k. take k (x ∷ xs)) (one-add m) ∙ (ap (λ zs. x ∷ zs) e ∙ sym (ap (λ k. take k (x ∷ ys)) (one-add n)))
 until_step false x m n xs ys e = refl
 
 -- what is taken up to a byte that fails a test doesn't depend on what is behind it
@@ -159,7 +151,7 @@ module _ (t u : List ℕ) (a : ℕ) (same : take a t ≡ take a u) (some : 0 < a
 
   starts_front : (k : ℕ) → k < a → starts_line t k ≡ starts_line u k
   starts_front zero h = refl
-  starts_front (suc k) h = starts_alike t u k k (front k (omega (arith, h))) (front (suc k) h)
+  starts_front (suc k) h = starts-alike t u k k (front k (omega (arith, h))) (front (suc k) h)
 
   last_front : (k : ℕ) → k < a → last_start t k ≡ last_start u k
   last_front zero h = refl

@@ -20,11 +20,11 @@ pub all_pushed : (P : String Global → Type 0) (text : String Global) (texts ys
 all_pushed P text texts ys true is h one = subst (All P) (sym is) (All-push P texts text h one)
 all_pushed P text texts ys false is h one = subst (All P) (sym is) h
 
--- of a document that isn't open the same is told at each version
+-- of a document that isn't open the same is reported at each version
 closed_news : (which : ShownErrors) (uri : List ℕ) (version : Option ℤ) (answer : Reply) → IsNewsReply which None uri None answer → IsNewsReply which None uri version answer
 closed_news which uri version answer h = grind arith
 
--- a document that is closed is told as one that isn't open
+-- a document that is closed is reported as one that isn't open
 pub takes_closed : (old new : Standing) (params : Option Data) (documents : Documents) (uri : List ℕ) (answer : Reply) → old.phase ≡ Running → new ≡ old → parameters.uri params ≡ Some uri → found uri documents ≡ None
     → IsNewsReply new.errors None uri None answer → TakesEvent old new params documents answer
 takes_closed old new params documents uri answer phase same named closed h = grind (arith, takes_news, closed_news)

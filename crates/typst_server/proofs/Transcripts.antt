@@ -166,7 +166,7 @@ frames-one body = append-nil (written body)
 pub warned-bytes : (lost : Option Loss) (loss : Loss) (bytes : List ℕ) → lost ≡ Some loss → bytes ≡ warning (text_of loss) → written bytes ≡ frames_of (warnings lost)
 warned-bytes lost loss bytes is same = ap written same ∙ sym (frames-one (warning (text_of loss))) ∙ ap (λ l. frames_of (warnings l)) (sym is)
 
--- a beginning of a warning is one of all that is told
+-- a beginning of a warning is one of all that is sent as news
 pub news-front : (a b : Option (List ℕ)) (news : News) → Begins a b (frames_of (warnings news.lost)) → Begins a b (frames_of (told news))
 news-front a b news h =
     let published : List (List ℕ) = map string_bytes news.published.items in
@@ -179,7 +179,7 @@ news-after a b c news bodies same before h =
     subst (Begins a c) (sym (frames-both (warnings news.lost) published))
     (begins-after a b c (frames_of (warnings news.lost)) (frames_of published) before (subst (λ bs. Begins b c (frames_of (map string_bytes bs))) same h))
 
--- a reply without a name sends its refusal, and then what is told
+-- a reply without a name sends its refusal, and then its news
 pub nameless-front : (a b : Option (List ℕ)) (answer : Reply) (why : Unread) (news : News) (bytes : List ℕ) → answer ≡ reply.Nameless why news → bytes ≡ nameless why → Begins a b (written bytes) → Begins a b (sent answer)
 nameless-front a b answer why news bytes is same h =
     subst (λ x. Begins a b (sent x)) (sym is) (begins-front a b (written (nameless why)) (frames_of (told news)) (subst (λ bs. Begins a b (written bs)) same h))

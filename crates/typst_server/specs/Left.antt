@@ -43,7 +43,7 @@ loss_of (reply.Response text) = None
 loss_of reply.Nothing = None
 loss_of (reply.Exit status) = None
 
--- where no loss is told there is none
+-- where no loss is reported there is none
 abbrev pub IsWarned : Option Loss → Documents → Documents → Type 0
 IsWarned None old new = LosesNone old new
 IsWarned (Some loss) old new = ⊤
@@ -60,7 +60,7 @@ Leaves encoding event.Changed uri params old new = Keeps encoding (changed_by en
 Leaves encoding event.Closed uri params old new = found uri new ≡ None
 Leaves encoding event.Exit uri params old new = found uri new ≡ found uri old
 
--- it is done with the document that the parameters name, and with no other one
+-- what a client says is done with the document that the parameters name, and with no other one
 abbrev pub IsDone : Encoding → Event → Option (List ℕ) → Option Data → Documents → Documents → Type 0
 IsDone encoding done None params old new = AreSame old new
 IsDone encoding done (Some uri) params old new = Leaves encoding done uri params old new × KeepsOthers uri old new

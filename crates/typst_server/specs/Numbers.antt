@@ -87,7 +87,7 @@ abbrev pub five : ℕ → ℕ → Shown → List ℕ
 five line column token =
     clipped (token.line - line) ∷ clipped (token.column - (if token.line == line then column else 0)) ∷ clipped token.size ∷ token.kind ∷ token.modifiers ∷ []
 
--- those of tokens that follow one another
+-- the numbers of tokens that follow one another
 abbrev pub encoded : ℕ → ℕ → List Shown → List ℕ
 encoded line column [] = []
 encoded line column (token ∷ rest) = five line column token ++ encoded token.line token.column rest

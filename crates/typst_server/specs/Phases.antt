@@ -30,7 +30,7 @@ begun which params =
       errors = which;
     }
 
--- it is shut down, and nothing else changes
+-- a session is shut down, and nothing else of it changes
 abbrev pub shut : Standing → Standing
 shut now = record now { phase = ShutDown }
 

@@ -92,7 +92,7 @@ pub record IsNotice (problems : Problems) (text : List ℕ) : Type 0 where
   pub written : IsJsonOf (WritesProblems problems) json
   pub told : text ≡ notification (codes "textDocument/publishDiagnostics") json
 
--- it publishes such problems
+-- a text is a notification that publishes problems as they are wanted
 pub record Publishes (wanted : Problems → Type 0) (text : List ℕ) : Type 0 where
   pub problems : Problems
   pub are : wanted problems

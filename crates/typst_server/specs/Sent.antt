@@ -93,7 +93,7 @@ TellsOf None document name (Changes changes) = ⊥
 TellsOf (Some last) document name (All tokens) = ⊥
 TellsOf (Some last) document name (Changes changes) = Leads (numbers_of last.of) changes name (numbers_of document)
 
--- it is written as all tokens, or as changes
+-- an answer about tokens is written as all tokens, or as changes
 abbrev pub WritesTold : Told → Log → Log → Type 0
 WritesTold (All tokens) = WritesTokens tokens
 WritesTold (Changes changes) = WritesTokenChanges changes

@@ -29,7 +29,7 @@ use Rattle.typst_server.specs.declared.server.Server.{Server}
 abbrev pub SameSent : Server → Server → Type 0
 SameSent old new = (new.next_number ≡ old.next_number) × ((uri : List ℕ) → sent_of uri new.documents ≡ sent_of uri old.documents)
 
--- the same tokens are kept, or none
+-- of each document the tokens stay that were kept, or none are kept, and the next ones have the same number
 abbrev pub DropsSent : Server → Server → Type 0
 DropsSent old new = (new.next_number ≡ old.next_number) × KeepsSent old.documents new.documents
 

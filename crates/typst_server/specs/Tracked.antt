@@ -32,7 +32,7 @@ pub record Followed : Type 0 where
 abbrev pub sent_code : Coded Sent
 sent_code = code_by (List ℕ × Opened) (coded× (coded_list coded_ℕ) opened_code) (λ sent. (sent.name, sent.of)) (λ p. record { name = p.0; of = p.1 }) (λ _. refl)
 
--- it is stored as the pair of these
+-- an open document with what was sent last is stored as a pair
 abbrev pub followed_code : Coded Followed
 followed_code =
     code_by (Opened × Option Sent) (coded× opened_code (coded_option sent_code)) (λ followed. (followed.document, followed.sent)) (λ p. record { document = p.0; sent = p.1 }) (λ _. refl)
@@ -43,7 +43,7 @@ sent_by last = record { name = string_bytes last.name; of = last.of.value }
 
 -- ---- how tokens stand to those that were sent
 
--- of two lists so many numbers at the front are the same, and so many at the back
+-- two lists have the same numbers at the front, up to a count, and at the back, up to another count
 pub record SameEnds (old new : List ℕ) (front back : ℕ) : Type 0 where
   pub first : take front old ≡ take front new
   pub last : drop (length old - back) old ≡ drop (length new - back) new
@@ -52,7 +52,7 @@ pub record SameEnds (old new : List ℕ) (front back : ℕ) : Type 0 where
   pub back_old : back ≤ length old
   pub back_new : back ≤ length new
 
--- so many tokens were sent of a document, with numbers that can be counted, of which so many at both ends are those of the present tokens
+-- the tokens that were sent of a document have numbers that can be counted, of which those at both ends, up to two counts, are those of the present tokens
 pub record IsSince (now was : Opened) (ends : Ends) : Type 0 where
   pub counted : length (numbers_of was) ≡ 5 * ends.count
   pub few : 5 * ends.count ≤ 2 ^ 64 - 1
@@ -91,7 +91,7 @@ TellsSince now None ends = ends ≡ None
 TellsSince now (Some sent) None = ⊥
 TellsSince now (Some sent) (Some ends) = IsSince now sent.of ends
 
--- so many tokens of a document are sent, with numbers that can be counted
+-- the tokens of a document have a count, and numbers that can be counted
 pub record IsCounted (document : Opened) (count : ℕ) : Type 0 where
   pub counted : length (numbers_of document) ≡ 5 * count
   pub few : 5 * count ≤ 2 ^ 64 - 1
@@ -115,13 +115,13 @@ pub record AreOf (was document : Opened) (kept : Kept) : Type 0 where
   pub len : kept.was_len ≡ length was.source.text
   pub since : WasBefore was document kept.read
 
--- they stand so to those that were sent last
+-- of a document that kept tokens are of, what is kept of the tokens sent last says how its tokens stand to those
 pub record StandSo (document : Opened) (kept : Kept) (sent : Option Last) : Type 0 where
   pub was : Opened
   pub of : AreOf was document kept
   pub last : IsLast was sent
 
--- if none are kept, the document's own do
+-- what is kept of the tokens sent last says how kept tokens stand to those or, if none are kept, the document's own
 abbrev pub IsTracked : Opened → Option Kept → Option Last → Type 0
 IsTracked document None last = IsLast document last
 IsTracked document (Some kept) last = StandSo document kept last
@@ -139,7 +139,7 @@ StaysKept kept read before after new_kept =
     (was old new : Opened) → Headline unicode_classes old.source → Headline unicode_classes new.source → new.encoding ≡ old.encoding → IsReadAgain old new (Some read) → before ≡ length old.source.text → after ≡ length new.source.text
     → AreOf was old kept → AreOf was new new_kept
 
--- so they are if they are kept after a change
+-- tokens that are kept after a change are kept tokens of the same document
 abbrev pub MayStay : Option Kept → Option (Range ℕ) → ℕ → ℕ → Option Kept → Type 0
 MayStay kept read before after None = ⊤
 MayStay None read before after (Some new_kept) = ⊥
@@ -159,7 +159,7 @@ IsLastAfter (Some old) front back (Some new) = IsShortened old new front back
 
 -- ---- tokens that are made again
 
--- they are kept as all of the present document
+-- kept tokens are all of the present document
 pub record ArePresent (document : Opened) (kept : Kept) : Type 0 where
   pub tokens : AreTokens document (Some kept.tokens)
   pub len : kept.was_len ≡ length document.source.text
@@ -169,17 +169,17 @@ abbrev pub IsPresent : Opened → Option Kept → Type 0
 IsPresent document None = ⊤
 IsPresent document (Some kept) = ArePresent document kept
 
--- so many at both ends have the numbers that they had in a document as it was
+-- the tokens at both ends, up to two counts, have the numbers that they had in a document as it was
 pub record IsCarried (was document : Opened) (carried : Carried) : Type 0 where
   pub kept : IsPresent document carried.kept
   pub same : SameEnds (numbers_of was) (numbers_of document) (5 * carried.front) (5 * carried.back)
 
--- so it is whatever document the kept tokens were of
+-- the tokens at both ends have the numbers that they had, whatever document the kept tokens were of
 abbrev pub IsCarriedOver : Opened → Option Kept → Carried → Type 0
 IsCarriedOver document None carried = IsCarried document document carried
 IsCarriedOver document (Some kept) carried = (was : Opened) → AreOf was document kept → IsCarried was document carried
 
--- and after edits that read these bytes again
+-- the tokens at both ends have the numbers that they had before edits that read these bytes again
 abbrev pub IsCarriedBy : Opened → Range ℕ → List Token → ℕ → Carried → Type 0
 IsCarriedBy document read tokens was_len carried =
     (was : Opened) → document.encoding ≡ was.encoding → AreTokens was (Some tokens) → was_len ≡ length was.source.text → WasBefore was document (Some read) → IsCarried was document carried

@@ -167,7 +167,7 @@ pub fn to_send(
     Ok((value, Fresh { name, count }))
 }
 
-/// So many tokens have numbers that can be counted.
+/// How many tokens at most have numbers that can be counted.
 const MOST: usize = usize::MAX / 5;
 
 /// How many tokens these are. It refuses where their numbers can't be counted.

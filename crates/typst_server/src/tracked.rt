@@ -198,7 +198,7 @@ impl Last {
         }
     }
 
-    /// The same, where so many of the first and of the last tokens still have their numbers.
+    /// What was sent last, where so many of the first and of the last tokens still have their numbers.
     fn shortened(self, front: usize, back: usize) -> Last
         ensures { spec.IsShortened self result front back }
     {
@@ -235,7 +235,7 @@ fn last_after(last: Option<Last>, front: usize, back: usize) -> Option<Last>
 }
 
 impl Kept {
-    /// The same tokens after one more edit, which read these bytes again, of a text of `before` bytes that has
+    /// Kept tokens after one more edit, which read these bytes again, of a text of `before` bytes that has
     /// `after` now.
     fn after(self, read: Range<usize>, before: usize, after: usize) -> Kept
         ensures { spec.StaysKept self read before after result }

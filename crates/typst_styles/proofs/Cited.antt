@@ -1,5 +1,5 @@
 -- The names that many of these proofs cite, passed on from one place. Declares nothing.
-pub use Rattle.std.proofs.Common.{Bool, IfOk, List, None, Option, Result, Some, [], add-one, ap, append-nil, append_assoc, arith, drop, drop-cons, drop_at, false, get_or, inl, inr, length, length-append, length-drop, length-take, length-take-le, map, max, nat_lt, refl, rules, subst, suc, sym, take, take_at, true, zero, ℕ, ◌%◌, ◌++◌, ◌+◌, ◌-◌, ◌<◌, ◌==◌, ◌^◌, ◌∙◌, ◌∷◌, ◌≡◌, ◌≢◌, ◌≤◌, ◌⊎◌}
+pub use Rattle.std.proofs.Common.{Bool, List, None, Option, Some, [], add-one, ap, append-nil, append_assoc, arith, drop, drop-cons, drop_at, false, get_or, inl, inr, length, length-append, length-drop, length-take, length-take-le, map, max, nat_lt, refl, rules, subst, suc, sym, take, take_at, true, zero, ℕ, ◌%◌, ◌++◌, ◌+◌, ◌-◌, ◌<◌, ◌==◌, ◌^◌, ◌∙◌, ◌∷◌, ◌≡◌, ◌≢◌, ◌≤◌, ◌⊎◌}
 pub use Rattle.std.proofs.Math.Seq.{drop-append-add, drop-append_seam, take-append-add, take-append_seam}
 pub use Rattle.std.proofs.lemmas.Bool.{cases_lt, cond_both, leb-true, ltb-false, ltb-true}
 pub use Rattle.std.proofs.lemmas.Bool.Decides.{leb_tells, nat_tests}
@@ -7,7 +7,7 @@ pub use Rattle.std.proofs.lemmas.List.{drop-append-le, drop-drop, drop-map, drop
 pub use Rattle.std.proofs.lemmas.List.Sorted.{IsPartitionPoint-from_clause, IsPartitionedBy-ltb}
 pub use Rattle.std.specs.Prelude.{MatchOption, min, nat_le, slice_get, slice_range}
 pub use Rattle.std.specs.declared.ops.Range.{Range}
-pub use Rattle.typst_highlight.proofs.BareRows.{bare_joined, bare_later, bare_leaf, bare_tag, bare_text, bare_within}
+pub use Rattle.typst_highlight.proofs.BareRows.{bare_later, bare_leaf, bare_tag, bare_within}
 pub use Rattle.typst_highlight.proofs.BeforeEdges.{IsApart, IsEdge, before_edge, edge}
 pub use Rattle.typst_highlight.proofs.Outlets.{joined_root}
 pub use Rattle.typst_highlight.proofs.Rows.{alone, here}
@@ -37,7 +37,8 @@ pub use Rattle.typst_styles.specs.declared.seeking.Spot.{Spot}
 pub use Rattle.typst_styles.specs.declared.styles.Style.{Style}
 pub use Rattle.typst_styles.specs.declared.tokens.Token.{Token}
 pub use Rattle.typst_tree.proofs.Boundaries.{kids_are}
-pub use Rattle.typst_tree.proofs.ReplacesChildren.{joined-append, start_le}
+pub use Rattle.typst_tree.proofs.Numbering.{joined_bare}
+pub use Rattle.typst_tree.proofs.ReplacesChildren.{joined-append, start_le, text_bare}
 pub use Rattle.typst_tree.specs.Boundaries.{AreCounted, IsBoundary}
 pub use Rattle.typst_tree.specs.Linked.{left, linked}
 pub use Rattle.typst_tree.specs.Tree.{Forest, Tree, bare, bare_forest, count, forest, joined, more, none, places, preorder, saturated, text_of, trees}

@@ -1,5 +1,5 @@
 -- The children of a root of markup, spans aside, and what an edit leaves of them.
-use Rattle.typst_styles.proofs.Cited.{◌≡◌, ℕ, ◌+◌, ◌-◌, ◌^◌, ◌<◌, ◌≤◌, ◌⊎◌, true, List, [], ◌∷◌, ◌++◌, length, map, refl, ap, sym, subst, ◌∙◌, arith, inl, inr, append_assoc, length-append, Range, map-append, bare_head, Forest, none, more, Tree, bare, bare_forest, forest, joined, text_of, trees, joined-append, bytes_of, first_bytes, last_bytes, HasEdge, IsEdit, StartsBefore, StartsBehind, begins_plain, is_edge, bare_joined, bare_leaf, bare_text, IsEdge, edge}
+use Rattle.typst_styles.proofs.Cited.{◌≡◌, ℕ, ◌+◌, ◌-◌, ◌^◌, ◌<◌, ◌≤◌, ◌⊎◌, true, List, [], ◌∷◌, ◌++◌, length, map, refl, ap, sym, subst, ◌∙◌, arith, inl, inr, append_assoc, length-append, Range, map-append, bare_head, Forest, none, more, Tree, bare, bare_forest, forest, joined, text_of, trees, joined-append, bytes_of, first_bytes, last_bytes, HasEdge, IsEdit, StartsBefore, StartsBehind, begins_plain, is_edge, bare_leaf, IsEdge, edge, joined_bare, text_bare}
 use Rattle.typst_kinds.specs.declared.kind.SyntaxKind.TheVariants as kind
 use Rattle.typst_tree.proofs.SpansAside.{forest_bare, trees_forest}
 use Rattle.typst_styles.proofs.TokensApart.{list_length}
@@ -73,7 +73,7 @@ pub record IsOf (text : List ℕ) (root : Tree) (ts : List Tree) : Type 0 where
   pub kids : bare_forest root.kids ≡ forest ts
 
 pub joined_is : {text : List ℕ} {root : Tree} {ts : List Tree} → IsOf text root ts → text ≡ joined (forest ts)
-joined_is {text} {root} {ts} w = w.whole ∙ (ap (λ bs. bs ++ joined root.kids) w.own ∙ (sym (bare_joined root.kids) ∙ ap joined w.kids))
+joined_is {text} {root} {ts} w = w.whole ∙ (ap (λ bs. bs ++ joined root.kids) w.own ∙ (sym (joined_bare root.kids) ∙ ap joined w.kids))
 
 pub bytes_is : {text : List ℕ} {root : Tree} {ts : List Tree} → IsOf text root ts → length text ≡ bytes_of ts
 bytes_is w = ap length (joined_is w)
@@ -100,14 +100,14 @@ bare_twice none = refl
 bare_twice (more h ks r) = λ i. more (bare_head h) (bare_twice ks i) (bare_twice r i)
 
 bare_bytes : (ts : List Tree) → bytes_of (map bare ts) ≡ bytes_of ts
-bare_bytes ts = ap (λ f. length (joined f)) (forest_bare ts) ∙ ap length (bare_joined (forest ts))
+bare_bytes ts = ap (λ f. length (joined f)) (forest_bare ts) ∙ ap length (joined_bare (forest ts))
 
 bare_first : (ts : List Tree) → first_bytes (map bare ts) ≡ first_bytes ts
-bare_first ts = grind (arith, bare_text)
+bare_first ts = grind (arith, text_bare)
 
 bare_last : (ts : List Tree) → last_bytes (map bare ts) ≡ last_bytes ts
 bare_last [] = refl
-bare_last (t ∷ []) = ap length (bare_text t)
+bare_last (t ∷ []) = ap length (text_bare t)
 bare_last (t ∷ u ∷ ts) = bare_last (u ∷ ts)
 
 bare_three : (xs ys zs : List Tree) → bare_forest (forest (xs ++ (ys ++ zs))) ≡ forest (map bare xs ++ (map bare ys ++ map bare zs))
@@ -160,7 +160,7 @@ at_front {text} {was_text} {was} {now} w s =
             within = omega (arith, s.within, long);
             bound = omega (arith, s.within, long, ap bytes_of in_it.same, bytes_append p (b ∷ in_it.rest));
           }
-      | inr on ↦ absurd (omega (arith, first_fits w.new on.more b w.back r on.back, ap bytes_of on.front, bytes_append w.front on.more, s.ends, w.begins, long, ap length (bare_text s.edge.edge)))
+      | inr on ↦ absurd (omega (arith, first_fits w.new on.more b w.back r on.back, ap bytes_of on.front, bytes_append w.front on.more, s.ends, w.begins, long, ap length (text_bare s.edge.edge)))
     ]
 
 -- an edge stands in both trees, before the same trees
@@ -187,7 +187,7 @@ at_end {text} {was_text} {was} {now} w s =
     let r : List Tree = map bare s.edge.back in
     let f : List Tree = w.front in
     let long = bare_bytes s.edge.front in
-    let same = ap length (bare_text s.edge.edge) in
+    let same = ap length (text_bare s.edge.edge) in
     elim (parts p b r (f ++ w.new) w.back (same_kids (edge_kids w.after s.edge) w.after ∙ sym (append_assoc f w.new w.back))) [
       | inl in_it ↦ absurd (omega (arith, last_fits f w.new p b in_it.rest in_it.same, ap bytes_of in_it.same, bytes_append f w.new, bytes_append p (b ∷ in_it.rest), list_length b in_it.rest, s.begins, w.ends, long))
       | inr on ↦

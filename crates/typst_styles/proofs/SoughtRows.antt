@@ -81,10 +81,6 @@ takes root w v t ts s is k = grind arith
 pub fewer : (were kept : List Tree) (kids : Forest) (t : Tree) (ts : List Tree) → were ≡ t ∷ ts → kids ≡ t.kids → kept ≡ ts → 1 + steps kids + (1 + steps (forest kept)) < 1 + steps (forest were)
 fewer were kept kids t ts e f g = omega (arith, ap (λ xs. steps (forest xs)) e, ap steps f, ap (λ xs. steps (forest xs)) g)
 
-none_left : (ts : List Tree) → length ts ≡ 0 → ts ≡ []
-none_left [] e = refl
-none_left (t ∷ ts) e = absurd (omega arith)
-
 -- ---- the rows
 
 pub left_pushed : (text : List ℕ) (root : Tree) (ws : List Row) (w : Row) → left_of_all text root (ws ++ w ∷ []) ≡ left_of text root w ++ left_of_all text root ws

@@ -1,5 +1,5 @@
 -- Tokens in the order in which they begin.
-use Rattle.typst_styles.proofs.Cited.{ℕ, ◌+◌, ◌-◌, ◌≤◌, ◌==◌, List, [], ◌∷◌, ◌++◌, length, drop, Option, None, Some, Result, IfOk, subst, arith, append_assoc, length-take, slice_range, Range, cond_both, Tagged, style_of, AreOrdered, both, continues, ends_line, first_role, lines, merged_after, stretch, stretches, token, touches, touching, Role, Style, Token}
+use Rattle.typst_styles.proofs.Cited.{ℕ, ◌+◌, ◌-◌, ◌≤◌, ◌==◌, List, [], ◌∷◌, ◌++◌, length, drop, Option, None, Some, subst, arith, append_assoc, length-take, slice_range, Range, cond_both, Tagged, style_of, AreOrdered, both, continues, ends_line, first_role, lines, merged_after, stretch, stretches, token, touches, touching, Role, Style, Token}
 use Rattle.typst_highlight.specs.Stretches.{AreJoined}
 
 -- those from a later byte on are those from an earlier one on
@@ -45,7 +45,3 @@ after-ordered a t (u ∷ us) le h =
 
 pub merged-ordered : (a : ℕ) (ts : List Token) → AreOrdered a ts → AreOrdered a (merged_after None ts)
 merged-ordered a ts h = grind (arith, after-ordered)
-
--- what follows for a value
-pub if-ok : {T E : Type 0} (result : Result T E) (P Q : T → Type 0) → ((x : T) → P x → Q x) → IfOk result P → IfOk result Q
-if-ok result P Q f h = grind arith

@@ -5,7 +5,8 @@ use Rattle.typst_names.specs.declared.contexts.Context.TheVariants as context
 use Rattle.typst_styles.proofs.EachToken.{AllBefore, AllFrom, Between, Each, each_both, touching_each}
 use Rattle.typst_styles.proofs.TokenOrder.{lower}
 use Rattle.typst_styles.proofs.TokensByNode.{by_node}
-use Rattle.typst_styles.proofs.TokensTouching.{joined_more, row_between}
+use Rattle.typst_styles.proofs.TokensTouching.{row_between}
+use Rattle.typst_highlight.proofs.MovedRows.{row_length}
 
 -- ---- no token has a byte that ends a line
 
@@ -47,7 +48,7 @@ stretches_off text p (s ∷ ss) rs h =
 pub all_between : (text : List ℕ) (root : Tree) → text ≡ text_of root → Between 0 (length text) (all_tokens text root)
 all_between text root w =
     subst (Between 0 (length text)) (sym (by_node text root))
-    (row_between 0 (length text) text root 0 0 None context.Value (more root.head root.kids none) (λ o. omega arith) (omega (arith, ap length w, joined_more root.head root.kids none, length-append root.head.text (joined root.kids))))
+    (row_between 0 (length text) text root 0 0 None context.Value (more root.head root.kids none) (λ o. omega arith) (omega (arith, ap length w, row_length root.head root.kids none, length-append root.head.text (joined root.kids))))
 
 -- a token has a byte, ends by byte e, and ends before the end of a line that ends at byte m, or begins behind it
 pub record IsParted (m e : ℕ) (t : Token) : Type 0 where

@@ -73,7 +73,7 @@ shown_behind range c u x (t ∷ xs) q l =
     behind_others range (of_tree c u x t r) (of_later c u x t r) (aside range 0 range.start (of_tree c u x t r) first (inr (omega arith)))
     ∙ shown_behind range (past c t (passed c t r)) u (after x t.head.kind) xs q (omega (arith, l, total))
 
--- the same round trees, further on, but for the last leaves
+-- what is round trees is the same, further on, except for the last leaves
 pub record Follows (c d : Around) (n : ℕ) : Type 0 where
   pub parent : d.parent ≡ c.parent
   pub outer : d.outer ≡ c.outer

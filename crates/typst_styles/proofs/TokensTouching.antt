@@ -1,7 +1,8 @@
 -- Which tokens of trees a range touches.
-use Rattle.typst_styles.proofs.Cited.{◌≡◌, ℕ, zero, suc, ◌+◌, ◌-◌, ◌^◌, ◌<◌, ◌≤◌, ◌⊎◌, Bool, List, [], ◌∷◌, ◌++◌, length, take, drop, Option, refl, ap, ◌∙◌, arith, inl, inr, length-append, Range, nat_tests, Head, Forest, none, more, Tree, count, forest, joined, saturated, Tag, tree_of, inner, behind, after, below, role_of, is_end, Context, Role, node, own, row, tag_in, style_of, touching, Token}
+use Rattle.typst_styles.proofs.Cited.{◌≡◌, ℕ, zero, suc, ◌+◌, ◌-◌, ◌^◌, ◌<◌, ◌≤◌, ◌⊎◌, Bool, List, [], ◌∷◌, ◌++◌, length, take, drop, Option, refl, ap, ◌∙◌, arith, inl, inr, length-append, Range, nat_tests, Forest, none, more, Tree, count, forest, joined, saturated, Tag, tree_of, inner, behind, after, below, role_of, is_end, Context, Role, node, own, row, tag_in, style_of, touching, Token}
 use Rattle.typst_names.specs.declared.contexts.Context.TheVariants as context
 use Rattle.typst_styles.proofs.EachToken.{Between, IsBetween, each_both, stretch_between}
+use Rattle.typst_highlight.proofs.MovedRows.{row_length}
 
 pub touching_append : (range : Range ℕ) (xs ys : List Token) → touching range (xs ++ ys) ≡ touching range xs ++ touching range ys
 touching_append range [] ys = refl
@@ -18,10 +19,6 @@ behind_others range xs ys gone = touching_append range xs ys ∙ ap (λ ts. ts +
 
 -- ---- of trees
 
--- the bytes of trees are those of the first and of the others
-pub joined_more : (h : Head) (ks r : Forest) → length (joined (more h ks r)) ≡ length h.text + (length (joined ks) + length (joined r))
-joined_more h ks r = omega (arith, length-append h.text (joined ks ++ joined r), length-append (joined ks) (joined r))
-
 -- the tokens of a tree are between two bytes if those of its children are
 node_between : (b e : ℕ) (text : List ℕ) (root : Tree) (n a : ℕ) (u : Option Tag) (c : Context) (is_last : Bool) (t : Tree) → (a < 2 ^ 64 - 1 → b ≤ a) → inner a t.head ≤ e
     → Between b e (row text root (n + 1) (inner a t.head) (tag_in root n u) (below c t.head.kind) t.kids) → Between b e (node text root n a u c is_last t)
@@ -36,7 +33,7 @@ pub row_between : (b e : ℕ) (text : List ℕ) (root : Tree) (n a : ℕ) (u : O
 row_between b e text root n a u c none l m = tt
 row_between b e text root n a u c (more h ks r) l m =
     let whole = length-append h.text (joined ks) in
-    let total = joined_more h ks r in
+    let total = row_length h ks r in
     each_both (IsBetween b e) (node text root n a u c (is_end r) (tree_of h ks)) (row text root (n + (1 + count ks)) (behind a h ks) u (after c h.kind) r)
     (node_between b e text root n a u c (is_end r) (tree_of h ks) l (omega (arith, total, m)) (row_between b e text root (n + 1) (inner a h) (tag_in root n u) (below c h.kind) ks (λ o. omega (arith, l, o)) (omega (arith, total, m))))
     (row_between b e text root (n + (1 + count ks)) (behind a h ks) u (after c h.kind) r (λ o. omega (arith, l, o)) (omega (arith, whole, total, m)))
@@ -63,7 +60,7 @@ row_from range text root n a u (suc i) (t ∷ ts) low few =
     let m : ℕ = n + (1 + count t.kids) in
     let b : ℕ = behind a t.head t.kids in
     let whole = length-append t.head.text (joined t.kids) in
-    let total = joined_more t.head t.kids passed in
+    let total = row_length t.head t.kids passed in
     let near = low (omega arith) in
     let number : m + count passed ≡ n + count (more t.head t.kids passed) = omega arith in
     let start : b + length (joined passed) ≡ a + length (joined (more t.head t.kids passed)) = omega (arith, whole, total, few) in

@@ -7,17 +7,17 @@ use Rattle.typst_styles.specs.Windows.{IsEdit, IsWindow, range_of}
 use Rattle.typst_styles.specs.declared.renewed.Outside.{Outside}
 use Rattle.typst_styles.specs.declared.tokens.Token.{Token}
 
--- those of some tokens that begin before a byte (of private clauses, and so are the next five)
+-- of some tokens those that begin before a byte (of private clauses, and so are the next five)
 abbrev pub begun_before : ℕ → List Token → List Token
 begun_before byte [] = []
 begun_before byte (t ∷ ts) = if nat_lt t.start byte then t ∷ begun_before byte ts else begun_before byte ts
 
--- those that begin at a byte or after it
+-- of some tokens those that begin at a byte or after it
 abbrev pub begun_from : ℕ → List Token → List Token
 begun_from byte [] = []
 begun_from byte (t ∷ ts) = if nat_le byte t.start then t ∷ begun_from byte ts else begun_from byte ts
 
--- so many of some tokens begin before a byte, and all behind them at it or after it
+-- how many of some tokens begin before a byte, where all after them begin at it or after it
 pub record IsParted (byte : ℕ) (tokens : List Token) (count : ℕ) : Type 0 where
   pub before : take count tokens ≡ begun_before byte tokens
   pub behind : drop count tokens ≡ begun_from byte tokens
@@ -40,7 +40,7 @@ AreRenewed text root window was was_len tokens =
     (was_text : List ℕ) (was_root : Tree) (read : Range ℕ) → IsEdit text was_text was_root root read → IsWindow root text read window → was_len ≡ length was_text → was ≡ tokens_in (range_of 0 (length was_text)) was_text was_root
     → tokens ≡ tokens_in (range_of 0 (length text)) text root
 
--- so many of all tokens of a text stand before a window, and so many behind it, which ended at a byte of that text
+-- how many of all tokens of a text stand before a window, and how many after it, where it ended at a byte of that text
 pub record IsOutside (was_text : List ℕ) (was_root : Tree) (start from : ℕ) (outside : Outside) : Type 0 where
   pub front : outside.front ≡ length (tokens_in (range_of 0 start) was_text was_root)
   pub back : outside.back ≡ length (tokens_in (range_of from (length was_text)) was_text was_root)

@@ -41,7 +41,7 @@ row text root n a u c (more h ks r) =
     (own text (tag_in root n u) (role_of c h.kind (is_end r)) a h ++ row text root (n + 1) (inner a h) (tag_in root n u) (below c h.kind) ks)
     ++ row text root (n + (1 + count ks)) (behind a h ks) u (after c h.kind) r
 
--- those of a tree, which is the last of such trees or isn't
+-- the tokens of a tree, which is the last of trees side by side or isn't
 abbrev pub node : List ℕ → Tree → ℕ → ℕ → Option Tag → Context → Bool → Tree → List Token
 node text root n a u c is_last t =
     own text (tag_in root n u) (role_of c t.head.kind is_last) a t.head ++ row text root (n + 1) (inner a t.head) (tag_in root n u) (below c t.head.kind) t.kids

@@ -3,7 +3,7 @@ use Rattle.std.specs.Prelude.{◌≡◌, ℕ, ◌+◌, ◌<◌, ◌%◌, ◌^◌
 use Rattle.typst_styles.specs.Renewed.{wrapped}
 use Rattle.typst_styles.specs.declared.tokens.Token.{Token}
 
--- so many of some tokens as they are, and the others moved by a distance
+-- the first tokens as they are, up to a number of them, and the others moved by a distance
 abbrev pub in_places : ℕ → ℕ → List Token → List Token
 in_places settled distance tokens = take settled tokens ++ map (wrapped distance) (drop settled tokens)
 

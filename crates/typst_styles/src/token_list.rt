@@ -33,7 +33,7 @@ impl Model for TokenList {
 }
 
 impl TokenList {
-    /// Those of a `Vec`, which is moved.
+    /// The tokens of a `Vec`, which is moved.
     pub fn new(tokens: Vec<Token>) -> TokenList
         ensures { result ≡ tokens.items }
     {
@@ -45,14 +45,14 @@ impl TokenList {
         }
     }
 
-    /// How many there are.
+    /// How many tokens there are.
     pub fn len(&self) -> usize
         ensures { result ≡ length self.now }
     {
         self.items.len()
     }
 
-    /// The one with an index.
+    /// The token with an index.
     pub fn at(&self, index: usize) -> Token
         requires { index < length self.now }
         ensures { slice_get self.now index ≡ Some result }
@@ -60,7 +60,7 @@ impl TokenList {
         token_at(self.items.as_slice(), self.settled, self.distance, index)
     }
 
-    /// How many begin before a byte. It finds where by halves: they stand in order.
+    /// How many tokens begin before a byte. It finds where by halves: they stand in order.
     pub(crate) fn count_before(&self, byte: usize) -> usize
         ensures within { result ≤ length self.now }
         ensures parts { AreOrdered 0 self.now → spec.IsParted byte self.now result }
@@ -68,8 +68,8 @@ impl TokenList {
         count_in_places(self.items.as_slice(), self.settled, self.distance, byte)
     }
 
-    /// The same with others in the place of those that begin from byte `start` to byte `end`, and those after these
-    /// moved so that they are as far after `to`.
+    /// The list with other tokens in the place of those that begin from byte `start` to byte `end`, and those
+    /// after these moved so that they are as far after `to`.
     pub(crate) fn replaced(
         self,
         start: usize,
@@ -133,7 +133,7 @@ fn count_before(tokens: &[Token], byte: usize) -> usize
     tokens.partition_point(|token| token.start < byte)
 }
 
-/// The same of some tokens that are moved by a distance.
+/// How many of some tokens begin before a byte, if moved by a distance.
 fn count_moved(tokens: &[Token], distance: usize, byte: usize) -> usize
     ensures within { result ≤ length tokens.now }
     ensures parts { AreOrdered 0 (map (spec.wrapped distance) tokens.now) → spec.IsParted byte (map (spec.wrapped distance) tokens.now) result }

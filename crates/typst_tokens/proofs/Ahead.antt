@@ -1,8 +1,7 @@
 -- What stands ahead of a cursor, seen or gone past in one piece.
-use Rattle.typst_tokens.proofs.Cited.{◌≡◌, ℕ, zero, suc, ◌+◌, max, List, [], ◌∷◌, length, take, if◌then◌else◌, is_none, sym, ap, ◌∙◌, arith, Option, encodes-chars, encode_utf8_all, chars, IsUtf8, Place, bytes_ahead, moved, moved_from, scout, position, far, Sight, saw, went}
+use Rattle.typst_tokens.proofs.Cited.{◌≡◌, ℕ, zero, suc, ◌+◌, max, List, [], ◌∷◌, length, take, if◌then◌else◌, is_none, sym, ap, ◌∙◌, arith, Option, encodes-chars, encode_utf8_all, chars, IsUtf8, Place, bytes_ahead, moved, moved_from, scout, position, far, Sight, saw, went, moved-moved, scout-moved}
 use Rattle.typst_tokens.specs.Reader.{place}
 use Rattle.typst_tokens.proofs.Sights.{far-none, far-on, peeked}
-use Rattle.typst_tokens.proofs.Words.{moved-moved, scout-on}
 
 -- where n characters ahead end, where there are so many
 far-whole : (n : ℕ) (b a : List ℕ) → n ≡ length (take n a) → far n (place b a) ≡ position (moved_from n b a)
@@ -24,4 +23,4 @@ bytes-of text z u t = sym (ap (λ x. length (encode_utf8_all x)) t ∙ ap length
 pub seen-to : (n : ℕ) (z y w : Place) (o : Option ℕ) (r l m e : ℕ) → m ≡ max r e → e ≡ position w + (if is_none o then 1 else 0) → w ≡ moved 1 y → o ≡ scout 0 y → y ≡ moved n z
     → ◌≡◌ {A = Sight} (record { place = z; reach = m; least = l }) (saw (suc n) (record { place = z; reach = r; least = l }))
 seen-to n z y w o r l m e g f p h q =
-    peeked n z w o r l m e g f (p ∙ ap (moved 1) q ∙ moved-moved n z.before z.ahead) (h ∙ ap (scout 0) q ∙ scout-on n z.before z.ahead)
+    peeked n z w o r l m e g f (p ∙ ap (moved 1) q ∙ moved-moved n z.before z.ahead) (h ∙ ap (scout 0) q ∙ scout-moved n z.before z.ahead)

@@ -1,6 +1,6 @@
 -- The names that many of these proofs cite, passed on from one place. Declares nothing.
 pub use Rattle.std.proofs.Common.{Bool, List, None, Option, Some, [], ap, append_assoc, arith, bit_and, codes, drop, drop-drop, eq-eqb, false, get_or, if◌then◌else◌, is_none, length, length-append, length-drop, length-take, length-take-le, max, min, nat_eq, nat_lt, not, refl, reverse, rules, slice_get, slice_index, slice_index_or, slice_range, subst, suc, sym, take, take-add, take_at, true, zero, zero-add, ℕ, ◌&&◌, ◌*◌, ◌++◌, ◌+◌, ◌-◌, ◌<◌, ◌==◌, ◌^◌, ◌||◌, ◌∙◌, ◌∷◌, ◌≡◌, ◌≤◌}
-pub use Rattle.std.proofs.lemmas.Bool.{ne_eqb}
+pub use Rattle.std.proofs.lemmas.Bool.{and_parts, ne_eqb}
 pub use Rattle.std.proofs.lemmas.Bool.Decides.{nat_tests}
 pub use Rattle.std.proofs.lemmas.Grind.{common_steps}
 pub use Rattle.std.proofs.lemmas.List.{length-reverse, reverse-append, reverse-reverse, take-append-drop}
@@ -13,7 +13,7 @@ unfoldable pub use Rattle.std.specs.Str.{chars}
 pub use Rattle.typst_kinds.specs.declared.kind.SyntaxKind.{SyntaxKind}
 pub use Rattle.typst_lines.proofs.Empty.{none-is}
 pub use Rattle.typst_lines.proofs.LineTable.{place-end}
-pub use Rattle.typst_lines.proofs.PlaceLemmas.{IsStep-from_ascii, advance-moves, chars-between, head-splits}
+pub use Rattle.typst_lines.proofs.PlaceLemmas.{IsStep-from_ascii, advance-moves, chars-between, head-splits, moved-moved, scout-moved}
 pub use Rattle.typst_lines.specs.Classes.{CharClasses, in_line}
 pub use Rattle.typst_lines.specs.Identifiers.{is_id_continue, is_id_start}
 pub use Rattle.typst_lines.specs.Newline.{is_newline}
@@ -43,7 +43,7 @@ unfoldable pub use Rattle.typst_tokens.specs.Numbers.{decimal, dotted, exponent,
 pub use Rattle.typst_tokens.specs.Pairs.{bytes_pass, either, four_pass, pair_passes, pairs_len, past_pairs, went_past_pairs}
 pub use Rattle.typst_tokens.specs.Raw.{fence_step, fence_turn, in_raw, raw_end}
 unfoldable pub use Rattle.typst_tokens.specs.Raw.{raw}
-pub use Rattle.typst_tokens.specs.Reader.{Look, Reader, Step, both, eat_span, eaten, exec, see_word, span_look, spanned, widened}
+pub use Rattle.typst_tokens.specs.Reader.{Reader, Step, both, eat_span, eaten, exec, see_word, span_look, spanned, widened}
 pub use Rattle.typst_tokens.specs.Reader.Reader.{answer, eat, eat_run, glance, peek, see_run, skip, span}
 pub use Rattle.typst_tokens.specs.Reader.Step.{see, see_back, turn}
 pub use Rattle.typst_tokens.specs.Reader.Turn.{go, last, leave}

@@ -1,11 +1,9 @@
 -- Columns: characters back to the line's start, and what is looked at for them.
-use Rattle.typst_tokens.proofs.Cited.{◌≡◌, ◌<◌, ◌≤◌, ℕ, suc, true, false, List, [], ◌∷◌, length, take, drop, slice_get, Some, None, length-take, refl, ap, sym, ◌∙◌, arith, length-reverse, encodes-chars, length-le-encodes, IsUtf8-take, prefix_len, IsUtf8, IsCharBoundary, chars, in_line, Place, place_at, moved_back, column_at, column_look, near, position, is_newline, Hull}
+use Rattle.typst_tokens.proofs.Cited.{◌≡◌, ◌<◌, ◌≤◌, ℕ, suc, true, false, List, [], ◌∷◌, length, take, drop, slice_get, Some, None, length-take, refl, ap, sym, ◌∙◌, arith, length-reverse, encodes-chars, length-le-encodes, IsUtf8-take, prefix_len, IsUtf8, IsCharBoundary, chars, in_line, Place, place_at, moved_back, column_at, column_look, near, position, is_newline}
 use Rattle.typst_tokens.proofs.Frame.{run-agree, run_look}
 use Rattle.typst_tokens.proofs.Sights.{near-on, near-none, near-start, position-step}
+pub use Rattle.typst_tokens.proofs.Sights.{same-hull}
 use Rattle.typst_tokens.specs.Reader.{place, no_look, Agree}
-
-pub same-hull : (r s l m : ℕ) → r ≡ s → l ≡ m → ◌≡◌ {A = Hull} (record { reach = r; least = l }) (record { reach = s; least = m })
-same-hull r s l m e f = rw (e, f) refl
 
 pub before-most : (s : List ℕ) (i : ℕ) → IsUtf8 s → IsCharBoundary s i → length (place_at s i).before ≤ i
 unfolding place_at
@@ -17,9 +15,6 @@ line-more xs rest c e h = rw (e, h) (omega arith)
 
 pub line-stop : (xs rest : List ℕ) (c : ℕ) → xs ≡ c ∷ rest → is_newline c ≡ true → prefix_len in_line xs ≡ 0
 line-stop xs rest c e h = rw (e, h) refl
-
-some-first : (x c : ℕ) → Some c ≡ Some x → x ≡ c
-some-first x c e = cc
 
 none-some : (c : ℕ) → Some c ≡ None → ⊥
 none-some c e = cc

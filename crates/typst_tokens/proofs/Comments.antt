@@ -1,7 +1,8 @@
 -- Block comments, character by character.
-use Rattle.typst_tokens.proofs.Cited.{◌≡◌, ℕ, ◌+◌, ◌-◌, Bool, true, false, ◌&&◌, ◌==◌, refl, sym, ap, ◌∙◌, Some, None, ne_eqb, scout, comment_turn, comment_step, in_comment, block_comment, Reader, eat_span, blank, comment, last, go, answer, Sight, Covers, went, sight, plain, Token, Memory}
+use Rattle.typst_tokens.proofs.Cited.{◌≡◌, ℕ, ◌+◌, ◌-◌, Bool, false, ◌&&◌, ◌==◌, refl, sym, ap, ◌∙◌, Some, None, ne_eqb, scout, comment_turn, comment_step, in_comment, Reader, eat_span, blank, comment, last, go, answer, Sight, Covers, went, sight, plain, Token, Memory}
 use Rattle.typst_kinds.specs.declared.kind.SyntaxKind.TheVariants as kind
 use Rattle.typst_tokens.proofs.Steps.{step-go, step-last, step-end, end-seen}
+use Rattle.std.proofs.lemmas.Bool.{and_right}
 
 abbrev pub done : Memory → Reader Memory Token
 done _ = answer (plain kind.BlockComment)
@@ -12,15 +13,11 @@ rest before depth = eat_span in_comment (comment before depth) done
 
 -- ---- turns
 
-and-none : (b : Bool) → (b && false) ≡ false
-and-none true = refl
-and-none false = refl
-
 pub no-first : (x n : ℕ) (b : Bool) → ¬ (x ≡ n) → (x == n && b) ≡ false
 no-first x n b h = rw (ne_eqb x n h) refl
 
 pub no-second : (b : Bool) (x n : ℕ) → ¬ (x ≡ n) → (b && x == n) ≡ false
-no-second b x n h = rw (ne_eqb x n h) (and-none b)
+no-second b x n h = and_right b (x == n) (ne_eqb x n h)
 
 pub turn-last : (before depth c : ℕ) → before ≡ 42 → c ≡ 47 → depth ≡ 0 → comment_turn before depth c ≡ last blank
 turn-last before depth c e f g = rw (e, f, g) refl

@@ -2,7 +2,7 @@
 use Rattle.typst_tokens.proofs.Cited.{◌≡◌, ◌≤◌, ℕ, zero, suc, ◌+◌, ◌-◌, max, min, Bool, true, false, List, [], ◌∷◌, take, length, slice_get, if◌then◌else◌, refl, sym, ap, subst, ◌∙◌, arith, prefix_len, Place, moved, moved_from, scout, run, past, leave, last, go, answer, peek, glance, span, eat, see_run, skip, eat_run, turn, see, see_back}
 use Rattle.typst_tokens.specs.Reader.{place, both, no_look, Step, ask, glimpse, Machine, Turn, spanned, span_look, Reader, exec, eaten, Look, look, marked, Agree, SameReading, widened, from_before, from_far, skip_look}
 
-take-shorter : {A : Type 0} (m n : ℕ) (xs ys : List A) → m ≤ n → take n xs ≡ take n ys → take m xs ≡ take m ys
+pub take-shorter : {A : Type 0} (m n : ℕ) (xs ys : List A) → m ≤ n → take n xs ≡ take n ys → take m xs ≡ take m ys
 take-shorter zero n xs ys le e = refl
 take-shorter (suc m) zero xs ys le e = absurd (omega arith)
 take-shorter (suc m) (suc n) [] [] le e = refl

@@ -1,5 +1,5 @@
 -- Links, in one piece.
-use Rattle.typst_tokens.proofs.Cited.{◌≡◌, ℕ, suc, max, Bool, ◌==◌, if◌then◌else◌, List, [], ◌∷◌, length, take, refl, arith, Option, Some, None, plain, faulty, Token, Place, moved, Look, both, widened, spanned, span_look, exec, brackets, Sight, Covers, saw, went, sight, link_turn, in_link, link_end, link}
+use Rattle.typst_tokens.proofs.Cited.{◌≡◌, ℕ, suc, Bool, ◌==◌, if◌then◌else◌, List, [], ◌∷◌, length, take, refl, arith, Option, Some, None, plain, faulty, Token, Place, moved, both, widened, spanned, span_look, exec, brackets, Sight, Covers, saw, went, sight, link_turn, in_link, link_end, link}
 use Rattle.typst_kinds.specs.declared.kind.SyntaxKind.TheVariants as kind
 use Rattle.typst_tokens.specs.declared.token.Fault.TheVariants as fault
 use Rattle.typst_lines.proofs.Fronts.{front-taken}
@@ -19,9 +19,6 @@ link-front awaited b (c ∷ a) = by-turn (after awaited c) (λ inside. link-fron
     by-turn : (o : Option (List ℕ)) → ((inside : List ℕ) → spanned in_link (brackets inside) (c ∷ b) a ≡ ((front inside a).0, brackets (front inside a).1))
         → turned in_link (brackets awaited) b c a (link_turn o) ≡ ((front_by awaited c a o).0, brackets (front_by awaited c a o).1)
     by-turn o h = grind arith
-
-same-look : (m : ℕ) → ◌≡◌ {A = Look} (record { back = 0; front = max 1 (max 1 (suc (suc m))) }) (record { back = 0; front = suc (suc m) })
-same-look m = let e : max 1 (max 1 (suc (suc m))) ≡ suc (suc m) = omega arith in rw e refl
 
 -- and it looks at the front and at what ends it
 link-look : (awaited b a : List ℕ) → span_look in_link (brackets awaited) b a ≡ record { back = 0; front = suc (length (front awaited a).0) }
@@ -47,7 +44,7 @@ ended balanced = if balanced then plain kind.Link else faulty fault.UnbalancedLi
 ended-is : (xs : List ℕ) (b : Bool) → b ≡ (length xs == 0) → ended b ≡ link_end (brackets xs)
 ended-is xs b e = grind arith
 
--- the same, as a scanner reads the front
+-- a link is read as a scanner reads its front
 pub link-is : (v u w : Sight) (start end : Place) (s t : List ℕ) (b : Bool) → Covers v → start ≡ v.place → end ≡ moved (length (front [] start.ahead).0) start → b ≡ (length (front [] start.ahead).1 == 0)
     → ((n : ℕ) → end ≡ moved n v.place → u ≡ saw (suc n) v) → ((n : ℕ) → end ≡ moved n start → s ≡ take n start.ahead) → t ≡ without_last_signs s → w ≡ went (length t) u
     → sight link v ≡ (ended b, w)

@@ -1,5 +1,5 @@
 -- Runs of characters that pass by the one that follows them.
-use Rattle.typst_tokens.proofs.Cited.{◌≡◌, ◌≤◌, ◌<◌, ℕ, zero, suc, ◌+◌, max, Bool, true, false, ◌&&◌, ◌||◌, get_or, List, [], ◌∷◌, length, slice_get, Option, Some, None, refl, sym, ap, subst, ◌∙◌, arith, nat_tests, is_ascii, IsUtf8, IsCharBoundary, prefix_len, Place, place_at, moved, moved_from, passes, past, scout, IsStep-from_ascii, either, bytes_pass, four_pass, pair_passes, pairs_len, past_pairs, went_past_pairs, go, far, Sight, Covers, saw, saw_by, went, sight}
+use Rattle.typst_tokens.proofs.Cited.{◌≡◌, ◌≤◌, ◌<◌, ℕ, zero, suc, ◌+◌, max, Bool, true, false, ◌||◌, get_or, List, [], ◌∷◌, length, slice_get, Option, Some, None, refl, sym, ap, subst, ◌∙◌, arith, nat_tests, is_ascii, IsUtf8, IsCharBoundary, prefix_len, Place, place_at, moved, moved_from, passes, past, scout, IsStep-from_ascii, either, bytes_pass, four_pass, pair_passes, pairs_len, past_pairs, went_past_pairs, go, far, Sight, Covers, saw, saw_by, went, sight, and_parts}
 use Rattle.typst_tokens.specs.Reader.{place, ask, glimpse, Machine, Reader, eat_span}
 use Rattle.typst_tokens.proofs.Sights.{covers-saw, covers-went, far-le, far-moved, far-none, far-on, same-sight, saw-ahead, two-scout, went-nowhere}
 use Rattle.typst_tokens.proofs.Spans.{sight-turn, sight-first, went-on}
@@ -55,10 +55,6 @@ moved-less zero b a = omega arith
 moved-less (suc n) b [] = omega arith
 moved-less (suc n) b (d ∷ a) = omega (arith, moved-less n (d ∷ b) a)
 
-or-second : (a b : Bool) → b ≡ true → (a || b) ≡ true
-or-second true b e = refl
-or-second false b e = e
-
 -- a run ends where what comes next does not pass
 pub run-ends : (alone : ℕ → Bool) (pairs : ℕ → Option ℕ → Bool) (o p : Option ℕ) (y w : Place) → o ≡ scout 0 y → w ≡ moved 1 y → p ≡ scout 0 w → passes alone (scout 0 y) ≡ false
     → pair_passes pairs o p ≡ false → past_pairs (either alone pairs) y ≡ y
@@ -74,16 +70,12 @@ pub run-shortens : (alone : ℕ → Bool) (pairs : ℕ → Option ℕ → Bool) 
 run-shortens alone pairs None p z y w f o m e = absurd (cc)
 run-shortens alone pairs (Some c) p z y w f o m e = grind (arith, moved-less (prefix_len alone z.ahead) z.before z.ahead)
 
-both-true : (a b : Bool) → (a && b) ≡ true → (a ≡ true) × (b ≡ true)
-both-true true b e = (refl, e)
-both-true false b e = absurd (cc)
-
 -- a run goes on after what passes by its bytes
 pub bytes-on : (test : ℕ → Option ℕ → Bool) (s : List ℕ) → IsUtf8 s → (i c d : ℕ) → IsCharBoundary s i → i + 1 < length s → c ≡ get_or s i 0 → d ≡ get_or s (i + 1) 0 → bytes_pass test c d ≡ true
     → IsCharBoundary s (i + 1) × ((past_pairs test (place_at s (i + 1)) ≡ past_pairs test (place_at s i)) × (length (place_at s (i + 1)).ahead ≤ length (place_at s i).ahead))
 bytes-on test s u i c d start lt is next e =
-    let first = both-true (is_ascii c) _ e in
-    let second = both-true (is_ascii d) _ first.1 in
+    let first = and_parts (is_ascii c) _ e in
+    let second = and_parts (is_ascii d) _ first.1 in
     let z = place_at s i in
     let one = IsStep-from_ascii s u i c start (omega (arith, lt)) is (below-128 c first.0) in
     let two = IsStep-from_ascii s u (i + 1) d one.boundary lt next (below-128 d second.0) in
@@ -115,7 +107,7 @@ module _ (test : ℕ → Option ℕ → Bool) (s : List ℕ) (u : IsUtf8 s) (fro
 
   -- and after four of them
   pub runs-on-four : (i : ℕ) → RunsOn test s from i → i + 4 < length s → four_pass test s i ≡ true → RunsOn test s from (i + 4)
-  runs-on-four i r lt e = grind (arith, both-true, runs-on)
+  runs-on-four i r lt e = grind (arith, and_parts, runs-on)
 
 -- ---- what a cursor does
 

@@ -5,7 +5,7 @@ use Rattle.typst_tokens.proofs.Moves.{exec-moved, moved-more}
 
 -- ---- bytes
 
-width-append : (xs ys : List ℕ) → width (xs ++ ys) ≡ width xs + width ys
+pub width-append : (xs ys : List ℕ) → width (xs ++ ys) ≡ width xs + width ys
 unfolding width
 width-append [] ys = omega arith
 width-append (c ∷ xs) ys = omega (arith, width-append xs ys)
@@ -15,7 +15,7 @@ unfolding width
 width-reverse [] = refl
 width-reverse (c ∷ xs) = ap width (reverse-append (c ∷ []) xs) ∙ omega (arith, width-append (reverse xs) (c ∷ []), width-reverse xs)
 
-width-encodes : (xs : List ℕ) → length (encode_utf8_all xs) ≡ width xs
+pub width-encodes : (xs : List ℕ) → length (encode_utf8_all xs) ≡ width xs
 unfolding width char_width
 width-encodes [] = refl
 width-encodes (c ∷ xs) = omega (arith, length-append (encode_utf8 c) (encode_utf8_all xs), length-encode c, width-encodes xs)
@@ -274,15 +274,15 @@ sight-is (eat_run test k) v h =
 pub read-is : {M A : Type 0} (r : Reader M A) (z : Place) (a : A) (v : Sight) → sight r (fresh z) ≡ (a, v) → exec r z ≡ (a, v.place)
 read-is r z a v e = let f = sym (sight-is r (fresh z) (covers-fresh z)) ∙ e in ap (λ p. (p.0, p.1.place)) f
 
+pub same-hull : (r s l m : ℕ) → r ≡ s → l ≡ m → ◌≡◌ {A = Hull} (record { reach = r; least = l }) (record { reach = s; least = m })
+same-hull r s l m e f = rw (e, f) refl
+
 pub hull-is : {M A : Type 0} (r : Reader M A) (z : Place) (a : A) (v : Sight) → sight r (fresh z) ≡ (a, v) → ◌≡◌ {A = Hull} (record { reach = v.reach; least = v.least }) (hull_of (look r z) z)
 hull-is r z a v e =
     let f = sym (sight-is r (fresh z) (covers-fresh z)) ∙ e in
     let l = look r z in
     sym (ap (λ p. record { reach = p.1.reach; least = p.1.least }) f)
     ∙ same-hull _ _ _ _ (omega (arith, far-le l.front z)) (omega (arith, near-le l.back z))
-  where
-    same-hull : (r s l m : ℕ) → r ≡ s → l ≡ m → ◌≡◌ {A = Hull} (record { reach = r; least = l }) (record { reach = s; least = m })
-    same-hull r s l m e f = rw (e, f) refl
 
 -- ---- what functions of the cursor do
 

@@ -17,12 +17,6 @@ unfolding number_after
 number_after-le base n [] h = omega arith
 number_after-le base n (c ∷ cs) h = omega (arith, number_after-le base (base * n + digit_value c) cs h, le-mul base n h)
 
-picked : (a b e f : Bool) (n : ℕ) → (b ≡ false → f ≡ false) → (if (a && e) && f then Some n else None) ≡ (if a && b then (if e && f then Some n else None) else None)
-picked false b e f n h = refl
-picked true true e f n h = refl
-picked true false true f n h = rw (h refl) refl
-picked true false false f n h = refl
-
 not-below : (m n k : ℕ) → m ≤ n → nat_lt m k ≡ false → nat_lt n k ≡ false
 not-below m n k le e = grind (arith, nat_tests)
 
@@ -42,10 +36,6 @@ number_from-end base n p h e = let below : nat_lt n (2 ^ 64) ≡ true = grind (a
 pub number_from-start : (base : ℕ) (text : List ℕ) → number_from base 0 (place_at text 0).ahead ≡ number base (chars text)
 unfolding place_at
 number_from-start base text = refl
-
-over : (base n d : ℕ) (a : Bool) → ¬ (base * n + d < 2 ^ 64) → (if a && nat_lt (base * n + d) (2 ^ 64) then Some (base * n + d) else None) ≡ None
-over base n d false h = refl
-over base n d true h = let e : nat_lt (base * n + d) (2 ^ 64) ≡ false = grind (arith, nat_tests) in rw e refl
 
 pub with_digit-sum : (base n c : ℕ) (r : Option ℕ) → digit_value c < base → SomeIff r (n * base + digit_value c < 2 ^ 64) (n * base + digit_value c) → r ≡ with_digit base n c
 with_digit-sum base n c r l h = grind arith

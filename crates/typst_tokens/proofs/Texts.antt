@@ -6,12 +6,10 @@ use Rattle.typst_tokens.proofs.Sights.{regard-is, covers-saw, covers-saw_by, saw
 use Rattle.typst_tokens.proofs.Words.{regard-see_word}
 use Rattle.typst_tokens.proofs.PairRuns.{moved-less, sight-pairs}
 use Rattle.typst_tokens.proofs.Spans.{saw-twice, sight-turn, sight-end, turned_sight}
+use Rattle.std.proofs.lemmas.Bool.{not-true}
 
 abbrev pub rest : CharClasses → Reader Memory Token
 rest k = eat_span (in_text k) blank (λ _. answer (plain kind.Text))
-
-other : (c d : ℕ) → may_stop d ≡ true → not (may_stop c) ≡ true → (c == d) ≡ false
-other c d stops goes = grind (arith, nat_tests)
 
 -- a character that stops no text
 plain-is : (k : CharClasses) (c : ℕ) → not (may_stop c) ≡ true → text_step k c ≡ on true
@@ -30,20 +28,16 @@ data Way (k : CharClasses) (c : ℕ) (next : Option ℕ) : Type 0 where
 equal : (c d : ℕ) → (c == d) ≡ true → c ≡ d
 equal c d e = grind (arith, nat_tests)
 
-off-is : (b : Bool) → not b ≡ true → b ≡ false
-off-is true e = sym e
-off-is false e = refl
-
 way : (k : CharClasses) (c : ℕ) (next : Option ℕ) → flowing k c next ≡ true → Way k c next
 way k c next e = by (not (may_stop c)) (c == 32) (passes k.alphanumeric next) (c == 104) (not (passes (λ d. d == 116) next)) refl refl refl refl refl e
   where
     by : (p s q h r : Bool) → not (may_stop c) ≡ p → (c == 32) ≡ s → passes k.alphanumeric next ≡ q → (c == 104) ≡ h → not (passes (λ d. d == 116) next) ≡ r → (p || ((s && q) || (h && r))) ≡ true → Way k c next
     by true s q h r ep es eq eh er e = plainly ep
     by false true true h r ep es eq eh er e = by_space (equal c 32 es) eq
-    by false true false true true ep es eq eh er e = by_letter (equal c 104 eh) (off-is _ er)
+    by false true false true true ep es eq eh er e = by_letter (equal c 104 eh) (not-true _ er)
     by false true false true false ep es eq eh er e = absurd (cc)
     by false true false false r ep es eq eh er e = absurd (cc)
-    by false false q true true ep es eq eh er e = by_letter (equal c 104 eh) (off-is _ er)
+    by false false q true true ep es eq eh er e = by_letter (equal c 104 eh) (not-true _ er)
     by false false q true false ep es eq eh er e = absurd (cc)
     by false false q false r ep es eq eh er e = absurd (cc)
 
@@ -127,10 +121,6 @@ rest-shortens test c z y e s = rw e (shorter z.before z.ahead s)
     shorter b (d ∷ a) s = omega (arith, moved-less (pairs_len test a) (d ∷ b) a)
 
 -- ---- words at which a text stops
-
-stopped : (b : Bool) (y : Sight) → ◌≡◌ {A = Turn Memory × Sight} (if b then (leave, y) else (go blank, y)) (if not b then go blank else leave, y)
-stopped true y = refl
-stopped false y = refl
 
 pub two-words : (first second : List ℕ) (v u x : Sight) (b : Bool) → word_at 1 first v.place ≡ false → u ≡ saw_word 1 first v → b ≡ word_at 1 second u.place → x ≡ saw_word 1 second u
     → regard (see_word 1 first (on false) (see_word 1 second (on false) (on true))) v ≡ (if not b then go blank else leave, x)

@@ -1,22 +1,22 @@
 -- Words.
-use Rattle.typst_tokens.proofs.Cited.{◌≡◌, ◌≤◌, ◌<◌, ℕ, zero, suc, ◌+◌, max, Bool, true, false, ◌&&◌, ◌==◌, if◌then◌else◌, List, [], ◌∷◌, drop, length, slice_get, get_or, refl, sym, ap, ◌∙◌, arith, Option, Place, moved, moved_from, scout, passes, word_at, Step, see_word, Sight, Covers, far, regard, saw_word, went, word_reach}
+use Rattle.typst_tokens.proofs.Cited.{◌≡◌, ◌≤◌, ◌<◌, ℕ, suc, ◌+◌, max, Bool, true, false, ◌&&◌, ◌==◌, if◌then◌else◌, List, [], ◌∷◌, drop, length, get_or, refl, sym, ap, ◌∙◌, arith, Option, Place, moved, scout, passes, word_at, Step, see_word, Sight, Covers, far, regard, saw_word, went, word_reach, moved-moved, scout-moved}
 use Rattle.std.proofs.Math.Seq.{drop-cons}
 use Rattle.typst_tokens.proofs.Sights.{far-moved, far-none, same-sight}
 
-pub scout-moved : (n : ℕ) (p : Place) → scout n (moved 1 p) ≡ scout (suc n) p
-scout-moved n p = grind arith
+pub scout-next : (n : ℕ) (p : Place) → scout n (moved 1 p) ≡ scout (suc n) p
+scout-next n p = grind arith
 
 -- a word after the next character
 pub word_at-moved : (n : ℕ) (word : List ℕ) (p : Place) → word_at n word (moved 1 p) ≡ word_at (suc n) word p
 word_at-moved n [] p = refl
-word_at-moved n (c ∷ word) p = rw (scout-moved n p, word_at-moved (suc n) word p) refl
+word_at-moved n (c ∷ word) p = rw (scout-next n p, word_at-moved (suc n) word p) refl
 
 pub word_reach-moved : (n : ℕ) (word : List ℕ) (p : Place) (r : ℕ) → word_reach n word (moved 1 p) r ≡ word_reach (suc n) word p r
 word_reach-moved n [] p r = refl
 word_reach-moved n (c ∷ word) p r =
     let e : suc (n + 1) ≡ suc (suc n) = omega arith in
     let f : far (suc n) (moved 1 p) ≡ far (suc (suc n)) p = far-moved n 1 p.before p.ahead ∙ ap (λ m. far m p) e in
-    rw (scout-moved n p, f, word_reach-moved (suc n) word p (max r (far (suc (suc n)) p))) refl
+    rw (scout-next n p, f, word_reach-moved (suc n) word p (max r (far (suc (suc n)) p))) refl
 
 pub regard-see_word : {A : Type 0} (n : ℕ) (word : List ℕ) (found other : Step A) (v : Sight) → regard (see_word n word found other) v ≡ (if word_at n word v.place then regard found (saw_word n word v) else regard other (saw_word n word v))
 regard-see_word n [] found other v = refl
@@ -54,16 +54,6 @@ word-eaten word z y r l m t e f h = grind (arith, word-reaches, far-none, same-s
 
 -- ---- a word, character by character
 
-pub moved-moved : (n : ℕ) (xs ys : List ℕ) → moved 1 (moved_from n xs ys) ≡ moved_from (suc n) xs ys
-moved-moved zero xs ys = refl
-moved-moved (suc n) xs [] = refl
-moved-moved (suc n) xs (c ∷ ys) = moved-moved n (c ∷ xs) ys
-
-pub scout-on : (n : ℕ) (xs ys : List ℕ) → scout 0 (moved_from n xs ys) ≡ slice_get ys n
-scout-on zero xs ys = refl
-scout-on (suc n) xs [] = refl
-scout-on (suc n) xs (c ∷ ys) = scout-on n (c ∷ xs) ys
-
 -- where the word is looked at next
 pub record Looking (word : List ℕ) (z : Place) (first : ℕ) (n : ℕ) (at : Place) (r : ℕ) : Type 0 where
   pub found : word_at 0 word z ≡ word_at n (drop n word) z
@@ -72,7 +62,7 @@ pub record Looking (word : List ℕ) (z : Place) (first : ℕ) (n : ℕ) (at : P
 
 module _ (word : List ℕ) (z : Place) (first n : ℕ) (at next : Place) (r : ℕ) (o : Option ℕ) (lt : n < length word) (h : Looking word z first n at r) (e : o ≡ scout 0 at) (m : next ≡ moved 1 at) where
   here : o ≡ scout n z
-  here = e ∙ ap (scout 0) h.place ∙ scout-on n z.before z.ahead
+  here = e ∙ ap (scout 0) h.place ∙ scout-moved n z.before z.ahead
 
   far-here : far 1 at ≡ far (suc n) z
   far-here = let q : suc (0 + n) ≡ suc n = omega arith in ap (far 1) h.place ∙ far-moved 0 n z.before z.ahead ∙ ap (λ k. far k z) q

@@ -50,7 +50,7 @@ along R from to new here [] t u r e = here t u r e
 along R from to new here (i ∷ path) t u r e =
     let b = below path i from to new t u r e in (b.kid, b.kid', b.found, b.is, along R from to new here path b.kid b.kid' b.reaches b.replaces)
 
--- the same of a node whose replacement is refused
+-- what holds of each node whose replacement is refused holds along the path
 pub refused_along : (P : Tree → Type 0) (from to : ℕ) (new : List Tree) → ((t : Tree) → Reaches [] from to t → replaced from to new t ≡ None → P t) → (path : List ℕ) (t : Tree) → Reaches path from to t → replaced_at path from to new t ≡ None → AtPath P path t
 refused_along P from to new here [] t r e = here t r e
 refused_along P from to new here (i ∷ path) t r e = by_kid (slice_get (kids_of t) i) r e (λ k r s. refused_along P from to new here path k r s)

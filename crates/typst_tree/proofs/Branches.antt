@@ -1,5 +1,5 @@
 -- Steps up from a node.
-use Rattle.typst_tree.proofs.Cited.{common_steps, ◌≡◌, ℕ, zero, suc, ◌+◌, ◌-◌, ◌^◌, ◌<◌, ◌≤◌, List, ◌∷◌, ◌++◌, true, false, length, take, drop, Option, Some, None, refl, ap, sym, subst, ◌∙◌, arith, append_assoc, length-append, get_or, rules, [], drop-append_seam, drop-append-add, nat_tests, Tree, trees, nodes, places, forest, count, preorder, first_at, last_leaf, is_leaf_from, if_none, Stands, IsChild, IsFork, IsAbove, leaf_after, leaf_until, reach_of, index_of, linked, LinkedNode, nat_le, nat_lt, find}
+use Rattle.typst_tree.proofs.Cited.{common_steps, ◌≡◌, ℕ, zero, suc, ◌+◌, ◌-◌, ◌^◌, ◌<◌, ◌≤◌, List, ◌∷◌, ◌++◌, true, false, length, take, drop, Option, Some, None, refl, ap, sym, subst, ◌∙◌, arith, append_assoc, length-append, get_or, rules, [], drop-append_seam, drop-append-add, nat_tests, Tree, trees, nodes, places, forest, count, preorder, first_at, last_leaf, is_leaf_from, if_none, Stands, IsChild, IsFork, IsAbove, leaf_after, leaf_until, reach_of, index_of, linked, LinkedNode, nat_le, find}
 use Rattle.std.proofs.lemmas.List.{drop-append-le, length-drop}
 use Rattle.typst_tree.proofs.LastLeaf.{last_append, last_none, preorder_split}
 use Rattle.typst_tree.proofs.SpansAside.{forest_trees}
@@ -13,6 +13,7 @@ use Rattle.typst_tree.specs.declared.linked.Above.{Above}
 use Rattle.typst_tree.proofs.WalksInPreorder.{first_append, length_places, length_preorder}
 use Rattle.typst_tree.proofs.NodesOfStretch.{node_here, same_node, standing, stands_whole}
 use Rattle.typst_tree.proofs.Parents.{parent_is, none_from}
+use Rattle.typst_tree.proofs.LastFrom.{last_all}
 
 pub above_is : (a : LinkedNode) (b : Above) → IsAbove a b → Some (linked b.parent) ≡ parent (linked a)
 above_is a b w = cc (parent_is b.parent.root.now b.parent.node.now b.parent.number b.parent.offset a.node.now a.number b.index b.parent.stands w.child)
@@ -122,20 +123,12 @@ leaf_not_found b k l h e =
     leaf_within b k (b.number + nodes b.node.now) l h refl
     ∙ map_none (at b.root.now) _ _ (e ∙ leaf_here b k)
 
--- a bound above all numbers is no bound
-unbounded : (b d n : ℕ) (xs : List Tree) → n + length xs ≤ b → n + length xs ≤ d → last_leaf b n xs ≡ last_leaf d n xs
-unbounded b d n [] h l = refl
-unbounded b d n (x ∷ xs) h l =
-    let first : nat_lt n b ≡ true = grind (arith, nat_tests, h) in
-    let second : nat_lt n d ≡ true = grind (arith, nat_tests, l) in
-    rw (first, second, unbounded b d (n + 1) xs (omega (arith, h)) (omega (arith, l))) refl
-
 if_none_right : (x y z : Option ℕ) → x ≡ None → y ≡ z → if_none x y ≡ z
 if_none_right x y z e f = ap (λ o. if_none o y) e ∙ f
 
 -- the leaves before a number within a row come after those before the row
 pub until_within : (xs : List Tree) (k b m : ℕ) (ys : List Tree) → Stands xs k b ys → k ≤ m → m ≤ k + length ys → last_leaf m 0 xs ≡ if_none (last_leaf m k ys) (last_leaf k 0 xs)
-until_within xs k b m ys s l h = let w = standing xs k b ys s in grind (arith, last_append, if_none_right, last_none, unbounded)
+until_within xs k b m ys s l h = let w = standing xs k b ys s in grind (arith, last_append, if_none_right, last_none, last_all)
 
 map_or : (f : ℕ → At) (x y : Option ℕ) → option_map f (if_none x y) ≡ option_or (option_map f x) (option_map f y)
 map_or f x y = grind arith

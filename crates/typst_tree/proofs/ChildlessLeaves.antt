@@ -17,7 +17,7 @@ whole_same (more h ks r) (more h' ks' r') e w =
     let rests : bare_forest r ≡ bare_forest r' = cc in
     (λ q. none_bare ks (kids ∙ ap bare_forest (w.0 (sym inner ∙ q))), whole_same ks ks' kids w.1, whole_same r r' rests w.2)
 
--- the same of trees
+-- a tree is whole if one is that is equal, spans aside
 pub whole_same_tree : (t u : Tree) → bare t ≡ bare u → IsWhole u → IsWhole t
 whole_same_tree t u e w = grind (arith, none_bare, whole_same)
 
@@ -45,7 +45,7 @@ whole_more [] i x h e w v = absurd (omega arith)
 whole_more (y ∷ xs) zero x h e w v = let u : IsWhole y = subst (λ (t : Tree). IsWhole t) e v in (u.0, u.1, tt)
 whole_more (y ∷ xs) (suc i) x h e w v = rw add-one (w.0, w.1, rw add-one at (whole_more xs i x (omega arith) e w.2 v))
 
-with_each_bare : (sp : SpanValue) (f : Forest) → bare_forest (with_each (spanned sp) f) ≡ bare_forest f
+pub with_each_bare : (sp : SpanValue) (f : Forest) → bare_forest (with_each (spanned sp) f) ≡ bare_forest f
 with_each_bare sp none = refl
 with_each_bare sp (more h ks r) = λ i. more (bare_head h) (with_each_bare sp ks i) (with_each_bare sp r i)
 

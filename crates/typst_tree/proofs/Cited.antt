@@ -1,9 +1,9 @@
 -- The names that many of these proofs cite, passed on from one place. Declares nothing.
-pub use Rattle.std.proofs.Common.{Bool, Bor, IsTrue, List, None, OnErr, Option, Result, Some, [], add-one, ap, append-nil, append_assoc, arith, cond, drop, drop_of_length-le, eq-eqb, false, get_or, get_or-set_other, get_or-set_same, if◌then◌else◌, inl, inr, length, length-append, length-drop, length-take-le, map, max, min, nat_lt, refl, reverse, rules, slice_get, slice_index_or, slice_set, subst, suc, sym, take, true, vec_len, zero, ℕ, ◌&&◌, ◌*◌, ◌++◌, ◌+◌, ◌-◌, ◌/◌, ◌<◌, ◌==◌, ◌^◌, ◌||◌, ◌↔◌, ◌∙◌, ◌∷◌, ◌≡◌, ◌≢◌, ◌≤◌, ◌⊎◌}
+pub use Rattle.std.proofs.Common.{Bool, Bor, IsTrue, List, None, OnErr, Option, Result, Some, [], add-one, ap, append-nil, append_assoc, arith, cond, drop, drop_of_length-le, eq-eqb, false, get_or, get_or-set_other, get_or-set_same, if◌then◌else◌, inl, inr, length, length-append, length-drop, length-take-le, map, max, min, nat_lt, refl, reverse, rules, slice_get, slice_index_or, slice_set, subst, suc, sym, take, true, vec_len, zero, ℕ, ◌&&◌, ◌*◌, ◌++◌, ◌+◌, ◌-◌, ◌/◌, ◌<◌, ◌==◌, ◌^◌, ◌||◌, ◌∙◌, ◌∷◌, ◌≡◌, ◌≢◌, ◌≤◌}
 pub use Rattle.std.proofs.Math.ListN.{get_or-map, length-set, set}
 pub use Rattle.std.proofs.Math.Nat.{mul-le-mul_left, mul-le-mul_right}
 pub use Rattle.std.proofs.Math.Seq.{drop-append-add, drop-append_seam, take-add, take-append-add, take-append_seam, take-length}
-pub use Rattle.std.proofs.lemmas.Bool.{cases_eq, cases_lt, or_parts}
+pub use Rattle.std.proofs.lemmas.Bool.{and_parts, and_right, cases_Bool, cases_eq, cases_lt, false_from_ne_true, or_parts, or_right}
 pub use Rattle.std.proofs.lemmas.Bool.Decides.{nat_tests}
 pub use Rattle.std.proofs.lemmas.Grind.{common_steps}
 pub use Rattle.std.proofs.lemmas.List.{drop-append-le, drop_all, drop_at, drop_more, get_or-reverse, get_or_default, length-map, length-reverse, map-append, map-id, map-set, set-get_or, set_split, take-append-drop, take-append-le, take-map, take-take, take_all, take_at, take_more, take_rest, with_items_is}
@@ -22,11 +22,11 @@ pub use Rattle.typst_kinds.specs.declared.kind.SyntaxKind.{SyntaxKind}
 pub use Rattle.typst_tree.specs.Boundaries.{AreCounted, IsBoundary}
 pub use Rattle.typst_tree.specs.Branches.{EndsBy, IsAbove, leaf_after, leaf_until}
 pub use Rattle.typst_tree.specs.Follows.{Follows, Joins, in_order_of, index_of, reach_of}
-pub use Rattle.typst_tree.specs.Found.{FindsLast, IsBelow, IsBelowChild, IsUnder, LooksBack, last_of}
+pub use Rattle.typst_tree.specs.Found.{FindsLast, IsBelow, IsBelowChild, IsUnder, last_of}
 pub use Rattle.typst_tree.specs.Laws.{Along, AtPath, IsFull, Keeps, touched, touched_by}
 pub use Rattle.typst_tree.specs.LeftRows.{IsAtMarked, IsReady, left, left_above}
 pub use Rattle.typst_tree.specs.Linked.{linked}
-pub use Rattle.typst_tree.specs.Looked.{Finds, FoundFrom, IsIn, Looks, first_of}
+pub use Rattle.typst_tree.specs.Looked.{FoundFrom, IsIn, first_of}
 pub use Rattle.typst_tree.specs.Numbers.{numbered, numbered_forest, numbered_list, placed, stride}
 pub use Rattle.typst_tree.specs.Order.{AreInOrder, IsNumbered, IsOrdered, IsWhole, IsWholeForest, numbers_of, upper_at}
 pub use Rattle.typst_tree.specs.Ordered.{IsKey, begins_past, number_at}

@@ -58,11 +58,6 @@ length_without i [] h = absurd (omega (arith, h))
 length_without zero (x ∷ xs) h = omega arith
 length_without (suc i) (x ∷ xs) h = omega (arith, length_without i xs (omega (arith, h)))
 
-put_back : {X : Type 0} (xs : List X) (i : ℕ) (x : X) → i < length xs → x ≡ get_or xs i x → insert (without i xs) i x ≡ xs
-put_back [] i x h e = absurd (omega (arith, h))
-put_back (y ∷ xs) zero x h e = ap (λ z. z ∷ xs) e
-put_back (y ∷ xs) (suc i) x h e = ap (λ zs. y ∷ zs) (put_back xs i x (omega (arith, h)) e)
-
 taken : {X : Type 0} (xs : List X) (i : ℕ) (x : X) → i < length xs → x ≡ get_or xs i x → take (suc i) xs ≡ take i xs ++ x ∷ []
 taken [] i x h e = absurd (omega (arith, h))
 taken (y ∷ xs) zero x h e = ap (λ z. z ∷ []) (sym e)

@@ -1,6 +1,5 @@
 -- What a search finds first, by a number that what it finds isn't below.
-use Rattle.typst_tree.proofs.Cited.{◌≡◌, ℕ, ◌+◌, ◌<◌, ◌≤◌, Bool, true, false, cond, max, List, ◌∷◌, ◌++◌, length, Option, Some, None, ap, sym, subst, ◌∙◌, arith, length-append, [], IfSome, option_map, Tree, nodes, places, saturated, texts, first_at, if_none, Within, first_of, IsIn, FoundFrom, Finds, Looks}
-use Rattle.typst_tree.specs.declared.search.Look.{Look}
+use Rattle.typst_tree.proofs.Cited.{◌≡◌, ℕ, ◌+◌, ◌<◌, ◌≤◌, Bool, true, false, cond, max, List, ◌∷◌, ◌++◌, length, Option, Some, None, ap, sym, subst, ◌∙◌, arith, length-append, [], IfSome, Tree, nodes, places, saturated, texts, first_at, if_none, Within, first_of, IsIn, FoundFrom}
 use Rattle.typst_tree.specs.declared.search.Look.TheVariants as look
 use Rattle.typst_tree.specs.declared.search.Spot.{Spot}
 use Rattle.typst_tree.proofs.RisingNumbers.{if_some}
@@ -95,13 +94,3 @@ from_past p m o l h =
 pub among : (o s : Spot) → IsIn o s → (o.number ≤ s.number) × (s.number + nodes s.node.now ≤ o.number + nodes o.node.now)
 among o s w =
     (omega (arith, w.number), omega (arith, w.number, ap length w.whole, length_places s.node.now, length_places o.node.now, length-append w.front (places s.node.now ++ w.back), length-append (places s.node.now) w.back))
-
-pub finds_number : (p : ℕ → ℕ → Tree → Bool) (o : Spot) (r : Option Spot) → Finds p o r → option_map (λ s. s.number) r ≡ first_of p o
-finds_number p o r h = grind arith
-
-pub finds_below : (p : ℕ → ℕ → Tree → Bool) (o : Spot) (r : Option Spot) → Finds p o r → IfSome r (λ s. IsIn o s)
-finds_below p o r h = grind arith
-
--- a look that leaves no child
-pub looks_all : (p : ℕ → ℕ → Tree → Bool) (heavy : ℕ) (o : Spot) (r : Look) → nodes o.node.now ≤ heavy → ((s : Spot) → r ≡ look.Found s → ⊥) → Looks p heavy o r → first_of p o ≡ None
-looks_all p heavy o r l n h = grind arith

@@ -1,5 +1,5 @@
 -- One try of `growth`.
-use Rattle.typst_tree.proofs.Cited.{◌≡◌, ℕ, suc, ◌+◌, ◌-◌, ◌*◌, ◌<◌, Bool, true, false, ◌&&◌, max, List, Some, None, refl, arith, ◌⊎◌, inl, inr, Head, Tree, growth, has_room, is_all}
+use Rattle.typst_tree.proofs.Cited.{◌≡◌, ℕ, suc, ◌+◌, ◌-◌, ◌*◌, ◌<◌, true, false, max, List, Some, None, refl, arith, Head, Tree, growth, has_room, is_all}
 
 module _ (h : Head) (xs : List Tree) (from to n tries c k : ℕ) (lt : c < tries) where
   one_more : tries - c ≡ suc (tries - (c + 1))
@@ -13,7 +13,3 @@ module _ (h : Head) (xs : List Tree) (from to n tries c k : ℕ) (lt : c < tries
 
   pub growth_goes : has_room h xs from to n k ≡ false → is_all xs from to k ≡ false → growth h xs from to n (tries - c) k ≡ growth h xs from to n (tries - (c + 1)) (max 1 (2 * k))
   growth_goes e f = rw (one_more, e, f) refl
-
-split : (a b : Bool) → (a && b) ≡ false → (a ≡ false) ⊎ (b ≡ false)
-split true b e = inr e
-split false b e = inl refl

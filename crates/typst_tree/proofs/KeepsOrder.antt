@@ -15,7 +15,7 @@ begin a xs zero = a
 begin a [] (suc l) = a
 begin a (x ∷ xs) (suc l) = begin (upper_of x) xs l
 
-positive : (l : ℕ) → (suc l == 0) ≡ false
+pub positive : (l : ℕ) → (suc l == 0) ≡ false
 positive l = grind (arith, nat_tests)
 
 begin_is : (a d : ℕ) (xs : List Tree) (l : ℕ) → l ≤ length xs → (if l == 0 then a else upper_or d (slice_get xs (l - 1))) ≡ begin a xs l

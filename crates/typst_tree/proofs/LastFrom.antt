@@ -1,12 +1,11 @@
 -- The last leaf below a number, in a node and in what is below it.
-use Rattle.typst_tree.proofs.Cited.{◌≡◌, ℕ, ◌+◌, ◌<◌, ◌≤◌, true, min, List, ◌∷◌, ◌++◌, length, take, drop, Option, Some, None, refl, ap, sym, ◌∙◌, arith, [], cases_lt, nat_tests, Tree, forest, nodes, count, places, preorder, last_leaf, if_none, Within, IsUnder, last_of, FindsLast, LooksBack, Found, nat_lt, IfSome, option_map}
-use Rattle.typst_tree.specs.declared.back.Seen.{Seen}
+use Rattle.typst_tree.proofs.Cited.{◌≡◌, ℕ, ◌+◌, ◌<◌, ◌≤◌, true, min, List, ◌∷◌, ◌++◌, length, take, drop, Option, Some, None, refl, ap, sym, ◌∙◌, arith, [], cases_lt, nat_tests, Tree, forest, nodes, count, places, preorder, last_leaf, if_none, Within, IsUnder, last_of, FindsLast, Found, nat_lt}
 use Rattle.typst_tree.specs.declared.back.Seen.TheVariants as seen
 use Rattle.typst_tree.proofs.LastLeaf.{last_append, last_none, preorder_split}
 use Rattle.typst_tree.proofs.WalksInPreorder.{length_places, length_preorder}
 
 -- bounds that are no lower than all numbers say the same
-last_all : (m l n : ℕ) (xs : List Tree) → n + length xs ≤ m → n + length xs ≤ l → last_leaf m n xs ≡ last_leaf l n xs
+pub last_all : (m l n : ℕ) (xs : List Tree) → n + length xs ≤ m → n + length xs ≤ l → last_leaf m n xs ≡ last_leaf l n xs
 last_all m l n [] h g = refl
 last_all m l n (x ∷ xs) h g =
     let low : nat_lt n m ≡ true = (let less : n < m = omega (arith, h) in grind (arith, nat_tests, less)) in
@@ -61,16 +60,6 @@ last_heavy m n e k t row view end same =
 -- a bound that says the same
 pub finds_same : (m l : ℕ) (o : Found) (r : Option Found) → last_of m o ≡ last_of l o → FindsLast o l r → FindsLast o m r
 finds_same m l o r e h = grind arith
-
--- a look that leaves no child
-pub looks_all : (m heavy : ℕ) (o : Found) (r : Seen) → nodes o.node.now ≤ heavy → ((f : Found) → r ≡ seen.Leaf f → ⊥) → LooksBack m heavy o r → last_of m o ≡ None
-looks_all m heavy o r l n h = grind arith
-
-pub finds_number : (m : ℕ) (o : Found) (r : Option Found) → FindsLast o m r → option_map (λ f. f.number) r ≡ last_of m o
-finds_number m o r h = grind arith
-
-pub finds_below : (m : ℕ) (o : Found) (r : Option Found) → FindsLast o m r → IfSome r (λ f. IsUnder o f)
-finds_below m o r h = grind arith
 
 -- some of the children are left, where the number that is looked for stands among them
 pub some_left : (k n e w : ℕ) (row : List Tree) → e ≡ n + 1 + count (forest (take k row)) → n < w → w < e → 0 < k

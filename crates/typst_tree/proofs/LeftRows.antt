@@ -54,9 +54,6 @@ passed_unmarked v here behind above h e = grind (arith, or_parts, append_assoc, 
 pub at_end : (here : Row) (above : List Row) → IsReady here above → length here.trees.now ≡ 0 → IsAtMarked (left here ++ left_above above)
 at_end here above r e = grind (arith, common_steps)
 
-past_clean : (v : Visited) (vs : List Visited) → has_any v.node.head.diagnostics ≡ false → diagnosed (v ∷ vs) ≡ diagnosed vs
-past_clean v vs e = ap (λ b. cond b (v ∷ diagnosed vs) (diagnosed vs)) e
-
 with_one : (v : Visited) (vs : List Visited) (a b : Bool) → has_any v.node.head.diagnostics ≡ a → have_diagnostics v.node.kids ≡ b → diagnosed (marked vs) ≡ diagnosed vs → diagnosed (marked (v ∷ vs)) ≡ diagnosed (v ∷ vs)
 with_one v vs true b own kids later = cc
 with_one v vs false true own kids later = cc

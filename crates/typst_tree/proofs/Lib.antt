@@ -58,7 +58,7 @@ pub mod Waiting
 --   next_leaf, leftmost_leaf             FoundFrom: found_in, from_on, from_below; PassesOver; Branches: leaf_found, leaf_not_found, over_above
 --   leaf_at                              PassesOver: byte_first, byte_next, byte_below, byte_none
 --   prev_leaf                            LastLeaf: back; LastFrom: last_in, last_lift, last_past; FoundBelow: itself, above, joined; Forks: holds_joined; Rows: step_back; Branches: until_here, until_top
---   find: a node finds itself            FindsOwnSpan: finds_own; SingleNodes: same_span
+--   find: a node finds itself            FindsOwnSpan: finds_own
 --   find, find_number from `ordered`     RisingNumbers: none_past, found_only
 --   is_ordered                           OrderBelow: nodes_within, order_own, order_child, order_node_but
 --   Preorder                             LeftRows; next_diagnosed: diagnosed_next, diagnosed_same

@@ -1,5 +1,5 @@
 -- Which trees have diagnostics.
-use Rattle.typst_tree.proofs.Cited.{common_steps, ◌≡◌, ℕ, suc, ◌+◌, ◌<◌, ◌≤◌, Bool, true, false, ◌||◌, List, ◌∷◌, ◌++◌, length, map, take, drop, get_or, zero, Some, if◌then◌else◌, refl, ap, sym, ◌∙◌, arith, [], slice_range, set, take_more, take-append-drop, set_split, set-get_or, drop_split, SyntaxKind, SpanValue, Own, has_any, spanned, Forest, none, more, Tree, forest, bare, bare_forest, have_diagnostics, has_diagnostics, with_each, synthesized, with_kind, at_tree, kids_of, have_others, swapped, is_error, Counts}
+use Rattle.typst_tree.proofs.Cited.{common_steps, ◌≡◌, ℕ, suc, ◌+◌, ◌<◌, ◌≤◌, Bool, true, false, ◌||◌, List, ◌∷◌, ◌++◌, length, map, take, drop, get_or, zero, Some, if◌then◌else◌, refl, ap, sym, ◌∙◌, arith, [], slice_range, set, take_more, take-append-drop, set_split, set-get_or, drop_split, SyntaxKind, SpanValue, Own, has_any, spanned, Forest, none, more, Tree, forest, bare, bare_forest, have_diagnostics, has_diagnostics, with_each, synthesized, with_kind, at_tree, kids_of, have_others, swapped, is_error, Counts, or_right}
 use Rattle.typst_tree.proofs.SpansAside.{over, trees_forest, forest_bare}
 use Rattle.typst_tree.proofs.Forests.{kids_kind}
 use Rattle.typst_tree.proofs.ReplacesChildren.{swapped_bare}
@@ -19,10 +19,6 @@ or_turn false true true = refl
 or_turn false true false = refl
 or_turn false false true = refl
 or_turn false false false = refl
-
-or_some : (a b : Bool) → b ≡ true → (a || b) ≡ true
-or_some true b e = refl
-or_some false b e = e
 
 pub have_append : (xs ys : List Tree) → have_diagnostics (forest (xs ++ ys)) ≡ (have_diagnostics (forest xs) || have_diagnostics (forest ys))
 have_append [] ys = refl
@@ -59,7 +55,7 @@ have_at xs i x h e =
 
 -- a tree with diagnostics is among some
 pub some_have : (xs : List Tree) (i : ℕ) (x : Tree) → i < length xs → x ≡ get_or xs i x → has_diagnostics x ≡ true → have_diagnostics (forest xs) ≡ true
-some_have xs i x h e p = have_at xs i x h e ∙ or_some (have_others i xs) (has_diagnostics x) p
+some_have xs i x h e p = have_at xs i x h e ∙ or_right (have_others i xs) (has_diagnostics x) p
 
 -- spans are no diagnostics
 have_bare : (f : Forest) → have_diagnostics (bare_forest f) ≡ have_diagnostics f
@@ -94,10 +90,6 @@ have_kind k (suc i) (more h ks r) = ap (λ b. has_any h.diagnostics || (have_dia
 abbrev pub Marks : Own → List Tree → Counts → Counts → Type 0
 Marks o ys gone come =
     (has_any o.head.diagnostics || (come.is_marked || (if gone.is_marked then have_diagnostics (forest ys) else o.is_marked))) ≡ (has_any o.head.diagnostics || have_diagnostics (forest ys))
-
-or_again : (a b : Bool) → (a || (a || b)) ≡ (a || b)
-or_again true b = refl
-or_again false b = refl
 
 marked_by : (o : Own) (xs ys : List Tree) (rest old new : Bool) (gone come : Counts) → have_diagnostics (forest xs) ≡ (rest || old) → have_diagnostics (forest ys) ≡ (rest || new) → o.is_marked ≡ (has_any o.head.diagnostics || have_diagnostics (forest xs)) → gone.is_marked ≡ old → come.is_marked ≡ new → Marks o ys gone come
 marked_by o xs ys rest old new gone come x y m g c = grind arith

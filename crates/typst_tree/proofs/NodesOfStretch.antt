@@ -20,7 +20,7 @@ here_of front ys back = rw (drop-append_seam front (ys ++ back)) (take-append_se
 pub stands : (xs : List Tree) (k b : ℕ) (ys : List Tree) → Within 0 0 xs k b ys → Stands xs k b ys
 stands xs k b ys w = grind (arith, common_steps, length-append, here_of, take-append_seam)
 
-get_seam : (front : List Tree) (t : Tree) (rest : List Tree) → slice_get (front ++ (t ∷ rest)) (length front) ≡ Some t
+pub get_seam : (front : List Tree) (t : Tree) (rest : List Tree) → slice_get (front ++ (t ∷ rest)) (length front) ≡ Some t
 get_seam [] t rest = refl
 get_seam (x ∷ front) t rest = get_seam front t rest
 

@@ -92,7 +92,7 @@ order_node t xs end e own each =
     row_up (number_of t.head.span + 1) end xs (before_up (number_of t.head.span) (number_at xs 0 end) own) (λ k d l. let next : k + 1 ≡ suc k = omega arith in up (numbers_of (get_or xs k d) ++ option_to_list (number_at xs (suc k) end)) (subst (λ j. AreInOrder (numbers_of (get_or xs k d) ++ option_to_list (number_at xs j end))) next (each k d l))) in
     up_pairs 0 (numbers_of t ++ option_to_list end) (omega arith, subst (λ f. Up (number_of t.head.span + 1) (numbers f ++ option_to_list end)) e row)
 
--- the same where the children's order is known of one of them and of all others
+-- a node is in order where the order of one child is known, and that of all others
 pub order_node_but : (t : Tree) (xs : List Tree) (end : Option ℕ) (last : ℕ) → forest xs ≡ t.kids → IfSome (number_at xs 0 end) (λ m. number_of t.head.span < m) → ((k : ℕ) (d : Tree) → k < length xs → (k ≡ last → ⊥) → AreInOrder (numbers_of (get_or xs k d) ++ option_to_list (number_at xs (k + 1) end))) → ((d : Tree) → last < length xs → AreInOrder (numbers_of (get_or xs last d) ++ option_to_list (number_at xs (last + 1) end))) → AreInOrder (numbers_of t ++ option_to_list end)
 order_node_but t xs end last e own others here =
     order_node t xs end e own each

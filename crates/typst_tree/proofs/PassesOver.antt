@@ -1,5 +1,5 @@
 -- Where a walk finds nothing for sure.
-use Rattle.typst_tree.proofs.Cited.{common_steps, ◌≡◌, ℕ, ◌+◌, ◌<◌, ◌≤◌, ◌==◌, Bool, true, false, ◌&&◌, List, ◌∷◌, ◌++◌, length, ◌^◌, None, Some, refl, ap, ◌∙◌, arith, length-append, [], list_any, nat_tests, Forest, none, more, Tree, forest, count, nodes, joined, text_of, preorder, places, saturated, numbers, texts, first_at, if_none, has_child, is_leaf_from, holds_byte, is_childless, nat_le, nat_lt, if◌then◌else◌}
+use Rattle.typst_tree.proofs.Cited.{common_steps, ◌≡◌, ℕ, ◌+◌, ◌<◌, ◌≤◌, ◌==◌, false, List, ◌∷◌, ◌++◌, length, ◌^◌, None, Some, refl, ap, ◌∙◌, arith, length-append, [], list_any, nat_tests, Forest, none, more, Tree, forest, count, nodes, joined, text_of, preorder, places, saturated, numbers, texts, first_at, if_none, has_child, is_leaf_from, holds_byte, is_childless, nat_le, nat_lt, if◌then◌else◌, and_right}
 use Rattle.typst_tree.proofs.LastLeaf.{if_none_nothing}
 use Rattle.typst_tree.proofs.WalksInPreorder.{length_preorder, length_places, texts_preorder, first_append, first_of_more, first_same, found_next, none_between, usize_saturated}
 
@@ -33,15 +33,11 @@ no_child_above k n a (more g ks r) h =
 pub no_child_after : (k n a : ℕ) (t : Tree) → n + nodes t ≤ k → first_at (has_child k) n a (places t) ≡ None
 no_child_after k n a t h = grind (arith, no_number_above, no_child_above)
 
-never : (x : Bool) → (x && false) ≡ false
-never true = refl
-never false = refl
-
 pub no_byte_before : (b n a : ℕ) (xs : List Tree) → b < saturated a → first_at (holds_byte b) n a xs ≡ None
 no_byte_before b n a [] h = refl
 no_byte_before b n a (x ∷ xs) h =
     let fails : nat_le (saturated a) b ≡ false = grind (arith, nat_tests, h) in
-    let here : holds_byte b n (saturated a) x ≡ false = rw fails (never (is_childless x.kids)) in
+    let here : holds_byte b n (saturated a) x ≡ false = rw fails (and_right (is_childless x.kids) false refl) in
     rw (here, no_byte_before b (n + 1) (a + length x.head.text) xs (omega (arith, h))) refl
 
 -- a node that ends by the byte b doesn't hold it
@@ -49,7 +45,7 @@ ended : (b n a : ℕ) (t : Tree) → saturated (a + length (text_of t)) ≤ b �
 ended b n a t h =
     let reach : b < saturated (saturated a + length (text_of t)) → ⊥ = λ l. omega (arith, h, l) in
     let fails : nat_lt b (saturated (saturated a + length (text_of t))) ≡ false = grind (arith, nat_tests, reach) in
-    rw (fails, never (nat_le (saturated a) b)) (never (is_childless t.kids))
+    rw (fails, and_right (nat_le (saturated a) b) false refl) (and_right (is_childless t.kids) false refl)
 
 pub no_byte_above : (b n a : ℕ) (f : Forest) → saturated (a + length (joined f)) ≤ b → first_at (holds_byte b) n a (preorder f) ≡ None
 no_byte_above b n a none h = refl

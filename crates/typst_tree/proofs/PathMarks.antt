@@ -1,21 +1,13 @@
 -- Which nodes on a path have diagnostics, at them or below them.
-use Rattle.typst_tree.proofs.Cited.{◌≡◌, ℕ, zero, suc, ◌+◌, ◌-◌, ◌<◌, ◌≤◌, Bool, true, false, ◌||◌, nat_lt, List, ◌∷◌, length, drop, get_or, Some, if◌then◌else◌, slice_get, slice_set, refl, ap, sym, ◌∙◌, arith, [], drop_more, Head, has_any, Tree, forest, have_diagnostics, has_diagnostics, kids_of, node_at, put_at, have_others, levels_above, marked_levels}
+use Rattle.typst_tree.proofs.Cited.{◌≡◌, ℕ, zero, suc, ◌+◌, ◌-◌, ◌<◌, ◌≤◌, Bool, true, false, ◌||◌, nat_lt, List, ◌∷◌, length, drop, get_or, Some, if◌then◌else◌, slice_get, slice_set, refl, ap, sym, ◌∙◌, arith, [], drop_more, Head, has_any, Tree, forest, have_diagnostics, has_diagnostics, kids_of, node_at, put_at, have_others, levels_above, marked_levels, slice_get_past}
 use Rattle.typst_tree.proofs.SpansAside.{over, trees_forest}
 use Rattle.typst_tree.proofs.StepDown.{slice_get_is}
 use Rattle.typst_tree.proofs.Marks.{have_set}
-use Rattle.typst_tree.proofs.PutAt.{step, got_at, put_same, slice_get_none}
+use Rattle.typst_tree.proofs.PutAt.{step, got_at, put_same}
 
-or_false : (b : Bool) → (b || false) ≡ b
+pub or_false : (b : Bool) → (b || false) ≡ b
 or_false true = refl
 or_false false = refl
-
-or_true : (a o z : Bool) → (a || (o || (z || true))) ≡ (z || true)
-or_true true o true = refl
-or_true true o false = refl
-or_true false true true = refl
-or_true false true false = refl
-or_true false false true = refl
-or_true false false false = refl
 
 -- a tree has diagnostics in the node at a path's end or elsewhere
 pub put_marked : (path : List ℕ) (z t u : Tree) → put_at path z t ≡ Some u → has_diagnostics u ≡ (has_diagnostics z || nat_lt 0 (marked_levels path t))
@@ -30,10 +22,6 @@ put_marked (i ∷ path) z t u e =
     let kids : have_diagnostics (forest (slice_set (kids_of t) i s.new)) ≡ (others || (has_diagnostics z || nat_lt 0 (marked_levels path s.kid))) =
     have_set (kids_of t) i s.new got.0 ∙ ap (λ b. others || b) (put_marked path z s.kid s.new s.puts) in
     grind arith
-
-or_again : (a b : Bool) → (a || (a || b)) ≡ (a || b)
-or_again true b = refl
-or_again false b = refl
 
 -- the mark of a node on a path after the exchange, as `swap_at` sets it
 pub swapped_mark : (path : List ℕ) (x z t u : Tree) (levels : ℕ) (gone come was : Bool) → node_at path t ≡ Some x → put_at path z t ≡ Some u → gone ≡ has_diagnostics x → come ≡ has_diagnostics z → was ≡ has_diagnostics t → (gone ≡ true → levels ≡ marked_levels path t) → (has_any u.head.diagnostics || (come || (if gone then nat_lt 0 levels else was))) ≡ has_diagnostics u
@@ -68,4 +56,4 @@ level_on path j t k h xs levels b l e got is = grind (arith, trees_forest, drop_
 
 -- a step that leads nowhere
 pub level_off : (path : List ℕ) (j : ℕ) (t : Tree) (h : Head) (xs : List Tree) → j < length path → over h xs ≡ t → length xs ≤ get_or path j 0 → marked_levels (drop j path) t ≡ 0
-level_off path j t h xs l e past = rw (drop_more path j 0 l, ← e, trees_forest, slice_get_none xs (get_or path j 0) past) refl
+level_off path j t h xs l e past = rw (drop_more path j 0 l, ← e, trees_forest, slice_get_past xs (get_or path j 0) past) refl

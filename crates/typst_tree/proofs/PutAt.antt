@@ -1,5 +1,5 @@
 -- The node at a path's end, exchanged for another one.
-use Rattle.typst_tree.proofs.Cited.{◌≡◌, ℕ, zero, suc, ◌+◌, ◌<◌, ◌≤◌, List, ◌∷◌, length, drop, get_or, Option, Some, None, refl, ap, sym, subst, ◌∙◌, arith, append-nil, length-append, rules, [], set, drop_more, Head, Tree, forest, trees, joined, nodes, text_of, IsWholeForest, kids_of, with_kids, At, node_at, put_at, Reaches, replaced, replaced_at, option_map, option_and_then, slice_get, slice_set}
+use Rattle.typst_tree.proofs.Cited.{◌≡◌, ℕ, zero, suc, ◌+◌, ◌<◌, ◌≤◌, List, ◌∷◌, length, drop, get_or, Option, Some, None, refl, ap, sym, subst, ◌∙◌, arith, append-nil, length-append, rules, [], set, drop_more, Head, Tree, forest, trees, joined, nodes, text_of, IsWholeForest, kids_of, with_kids, At, node_at, put_at, Reaches, replaced, replaced_at, option_map, option_and_then, slice_get, slice_set, slice_get_past}
 use Rattle.typst_tree.proofs.SpansAside.{over, trees_forest, forest_trees}
 use Rattle.typst_tree.proofs.Numbering.{some_nodes}
 use Rattle.typst_tree.proofs.MovedCounts.{Moved, set_moved}
@@ -28,9 +28,6 @@ set_twice (x ∷ xs) (suc i) k l = ap (λ ys. x ∷ ys) (set_twice xs i k l)
 
 map_same : (f g : Tree → Tree) → ((k : Tree) → f k ≡ g k) → (o : Option Tree) → option_map f o ≡ option_map g o
 map_same f g e o = grind arith
-
-then_some : (o : Option Tree) → o ≡ option_and_then (λ y. Some y) o
-then_some o = grind arith
 
 with_own_kids : (t : Tree) → with_kids t (kids_of t) ≡ t
 with_own_kids t = ap (λ f. record { head = t.head; kids = f }) (forest_trees t.kids)
@@ -165,13 +162,8 @@ reaches_from (i ∷ path) a b t h = by_kid (slice_get (kids_of t) i) h (λ k r. 
 pub walk_on : (path : List ℕ) (j : ℕ) (t k : Tree) (h : Head) (xs : List Tree) → j < length path → over h xs ≡ t → slice_get xs (get_or path j 0) ≡ Some k → node_at (drop j path) t ≡ node_at (drop (j + 1) path) k
 walk_on path j t k h xs l e got = rw (drop_more path j 0 l, ← e, trees_forest, got) refl
 
-pub slice_get_none : (xs : List Tree) (i : ℕ) → length xs ≤ i → slice_get xs i ≡ None
-slice_get_none [] i l = refl
-slice_get_none (x ∷ xs) zero l = absurd (omega (arith, l))
-slice_get_none (x ∷ xs) (suc i) l = slice_get_none xs i (omega (arith, l))
-
 pub walk_off : (path : List ℕ) (j : ℕ) (t : Tree) (h : Head) (xs : List Tree) → j < length path → over h xs ≡ t → length xs ≤ get_or path j 0 → node_at (drop j path) t ≡ None
-walk_off path j t h xs l e past = rw (drop_more path j 0 l, ← e, trees_forest, slice_get_none xs (get_or path j 0) past) refl
+walk_off path j t h xs l e past = rw (drop_more path j 0 l, ← e, trees_forest, slice_get_past xs (get_or path j 0) past) refl
 
 -- what the children's replacement at the path's end comes to, where that node was taken out and is put back
 pub replaced_back : (path : List ℕ) (a b : ℕ) (ns : List Tree) (t x y z s u : Tree) → node_at path t ≡ Some x → put_at path z t ≡ Some s → put_at path y s ≡ Some u → replaced a b ns x ≡ Some y → replaced_at path a b ns t ≡ Some u

@@ -5,9 +5,6 @@ use Rattle.typst_tree.proofs.Numbering.{count_bare}
 use Rattle.typst_tree.proofs.Stretches.{count-append}
 use Rattle.typst_tree.proofs.SetAside.{aside}
 
-all_from : (from len to k : ℕ) → from ≤ k → len ≤ to + k → (nat_le from k && nat_le len (to + k)) ≡ true
-all_from from len to k p q = grind (arith, nat_tests)
-
 all_is : (from len to k : ℕ) → (nat_le from k && nat_le len (to + k)) ≡ true → (from ≤ k) × (len ≤ to + k)
 all_is from len to k e = (grind (arith, nat_tests), grind (arith, nat_tests))
 

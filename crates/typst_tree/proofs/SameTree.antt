@@ -1,15 +1,11 @@
 -- `same_tree` is the test of `bare t ≡ bare u`.
-use Rattle.typst_tree.proofs.Cited.{◌≡◌, ℕ, ◌+◌, ◌<◌, ◌≤◌, Bool, true, false, ◌&&◌, IsTrue, List, ◌∷◌, length, drop, get_or, refl, ap, subst, arith, [], nat_tests, drop_more, drop_all, min, Tree, tree_code, bare, same_code, same_tree, front}
+use Rattle.typst_tree.proofs.Cited.{◌≡◌, ℕ, ◌+◌, ◌<◌, ◌≤◌, Bool, true, false, IsTrue, List, ◌∷◌, length, drop, get_or, refl, ap, subst, arith, [], nat_tests, drop_more, drop_all, min, Tree, tree_code, bare, same_code, same_tree, front, and_parts, false_from_ne_true}
 use base.Stored.{Gv, gnil, gnum, gcons}
 
 pub code_same : (a : Gv) → same_code a a ≡ true
 code_same gnil = refl
 code_same (gnum n) = grind (arith, nat_tests)
 code_same (gcons a b) = rw (code_same a, code_same b) refl
-
-both : (a b : Bool) → (a && b) ≡ true → (a ≡ true) × (b ≡ true)
-both true b e = (refl, e)
-both false b e = absurd (cc)
 
 pub same_code_is : (a b : Gv) → same_code a b ≡ true → a ≡ b
 same_code_is gnil gnil e = refl
@@ -21,7 +17,7 @@ same_code_is (gnum n) (gcons a b) e = absurd (cc)
 same_code_is (gcons a b) gnil e = absurd (cc)
 same_code_is (gcons a b) (gnum n) e = absurd (cc)
 same_code_is (gcons a b) (gcons c d) e =
-    let p = both (same_code a c) (same_code b d) e in
+    let p = and_parts (same_code a c) (same_code b d) e in
     λ i. gcons (same_code_is a c p.0 i) (same_code_is b d p.1 i)
 
 pub same_tree_is : (t u : Tree) → same_tree t u ≡ true → bare t ≡ bare u
@@ -34,11 +30,7 @@ same_from_bare t u e = subst (λ (v : Tree). same_code (tree_code.code (bare t))
 
 pub not_same : (t u : Tree) (b : Bool) → b ≡ false → (bare t ≡ bare u → IsTrue b) → same_tree t u ≡ false
 not_same t u b e h =
-    elim_false (same_tree t u) (λ s. let i : IsTrue b = h (same_tree_is t u s) in absurd (cc))
-  where
-    elim_false : (c : Bool) → (c ≡ true → ⊥) → c ≡ false
-    elim_false true f = absurd (f refl)
-    elim_false false f = refl
+    false_from_ne_true (same_tree t u) (λ s. let i : IsTrue b = h (same_tree_is t u s) in absurd (cc))
 
 pub front_more : (xs ys : List Tree) (i : ℕ) (x y : Tree) → x ≡ get_or xs i x → y ≡ get_or ys i y → i < length xs → i < length ys → same_tree x y ≡ true → front (drop i xs) (drop i ys) ≡ front (drop (i + 1) xs) (drop (i + 1) ys) + 1
 front_more xs ys i x y p q h k e = rw (drop_more xs i x h, drop_more ys i y k, ← p, ← q, e) refl

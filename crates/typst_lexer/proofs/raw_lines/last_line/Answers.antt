@@ -1,10 +1,10 @@
-use Rattle.typst_lexer.proofs.Cited.{common_steps, sym, arith, chars, place}
-use Rattle.typst_lexer.proofs.Moves.{start-ahead, start-before, end-next, line-shorter}
+use Rattle.typst_lexer.proofs.Cited.{common_steps, sym, arith, chars, place, ahead-text}
+use Rattle.typst_lexer.proofs.Moves.{start-before, end-next, line-shorter}
 use Rattle.typst_lexer.proofs.Loops.{row-first, row-step, last-line}
 use Rattle.typst_lexer.proofs.raw_lines.last_line.Goals as goal
 
 pub loop-start-init : goal.loop-start-init
-loop-start-init c = grind (arith, row-first, start-before, start-ahead)
+loop-start-init c = grind (arith, row-first, start-before, ahead-text)
 
 pub loop-start-smaller : goal.loop-start-smaller
 loop-start-smaller c = grind (arith, line-shorter, end-next)

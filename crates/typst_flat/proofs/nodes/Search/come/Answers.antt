@@ -1,6 +1,7 @@
 use Rattle.typst_flat.proofs.Cited.{refl, Course, course}
-use Rattle.typst_flat.proofs.Placing.{none_there, stays_back}
+use Rattle.typst_flat.proofs.Placing.{stays_back}
 use Rattle.typst_flat.proofs.nodes.Search.come.Goals as goal
+use Rattle.std.proofs.lemmas.List.{nil_from_length}
 
 pub rows-preserved : goal.rows-preserved
 rows-preserved c =
@@ -8,5 +9,5 @@ rows-preserved c =
     let v : Course = course c.args.self c.rows.at c.rows.progress in
     record {
       number = c.rows.invariant.number;
-      ready = stays_back v _ c.in-Some-leave.row c.rows.invariant.ready (none_there c.rows.at.nodes.now c.in_default.ensures.cases) w.0 w.1 refl refl refl refl refl;
+      ready = stays_back v _ c.in-Some-leave.row c.rows.invariant.ready (nil_from_length c.rows.at.nodes.now c.in_default.ensures.cases) w.0 w.1 refl refl refl refl refl;
     }
