@@ -35,7 +35,7 @@ pub inside-over : (inside now : ℕ) (us vs : List Entry) → inside_of inside u
 inside-over inside now [] vs h = grind arith
 inside-over inside now (u ∷ us) vs h = let later = λ (m : ℕ) (q : inside_of m us ≡ Some now). inside-over m now us vs q in grind (arith, later)
 
--- after an entry more
+-- what is known of the entries before a place, after one more
 pub record Further (es : List Entry) (n start reach : ℕ) : Type 0 where
   pub start_is : start ≡ end_of 0 (take n es)
   pub order : start ≤ reach
@@ -130,7 +130,7 @@ pieces-split w inside start now (u ∷ us) vs h lt =
     let later = λ (m : ℕ) (q : inside_of m us ≡ Some now). pieces-split w m (token_at start u) now us vs q lt in
     grind (arith, later)
 
--- ---- the same from an anchor on
+-- ---- what is counted from an anchor on
 
 pub front-from : (es : List Entry) (a : Anchor) (at : ℕ) → IsAnchor es a → a.reach ≤ at → a.number + front_of at a.start (drop a.number es) ≡ front_of at 0 es
 front-from es a at h le = let whole = ap (front_of at 0) (take-append-drop a.number es) in grind (arith, length-take-le, front-split, looks-more)
@@ -175,7 +175,7 @@ piece-from es a at h lt =
     (ap (piece_of at 0 (end_of 0 (take a.first es)) a.first) p.rest ∙ piece-split at 0 (end_of 0 (take a.first es)) a.first 0 vs ws h.run (omega (arith, end_is, lt))
     ∙ ap (λ s. piece_of at 0 s (a.first + length vs) ws) end_is ∙ ap (λ n. piece_of at 0 (end_of 0 (take a.number es)) n ws) (omega (arith, le)))
 
--- the same pieces of an anchor's run come after it as after a place of the run before it
+-- after an anchor come the pieces of its run that come after a place of the run before it
 pub pieces-from : (es : List Entry) (a : Anchor) (n : ℕ) (w : Window) → IsAnchor es a → a.first ≤ n → n ≤ a.number → inside_of 0 (drop a.first (take n es)) ≡ Some 0 → a.start < w.from
     → within w (pieces_of 0 (end_of 0 (take a.number es)) (drop a.number es)) ≡ within w (pieces_of 0 (end_of 0 (take n es)) (drop n es))
 pieces-from es a n w h after le run lt =

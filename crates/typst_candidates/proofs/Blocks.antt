@@ -96,13 +96,13 @@ back-words (p ∷ ps) ws most h a = step (entry_in p) ws (λ e. near-kind (slice
     step : (o : Option Entry) (vs : List Entry) → ((e : Entry) → o ≡ Some e → IsNear e) → GoBack most vs → ((us : List Entry) → GoBack most us → GoBack most (unpacked ps us)) → GoBack most (filled (o ∷ map entry_in ps) vs)
     step o vs f b rest = grind arith
 
--- also after a place
+-- what goes back so far does so after a place
 pub back-after : (ps : List Packed) (ws : List Entry) (n passed most : ℕ) → n ≤ length ps → passed ≡ wides (take n ps) → wides ps ≡ length ws → 2 ^ 4 ≤ most → GoBack most (drop passed ws) → GoBack most (drop n (unpacked ps ws))
 back-after ps ws n passed most within is h far a =
     let rest : drop n (unpacked ps ws) ≡ unpacked (drop n ps) (drop passed ws) = (halves ps ws n within h).back ∙ ap (λ k. unpacked (drop n ps) (drop k ws)) (sym is) in
     subst (GoBack most) (sym rest) (back-words (drop n ps) (drop passed ws) most far a)
 
--- and further on
+-- what goes back so far does so further on
 pub back-on : (es : List Entry) (m n most : ℕ) → m ≤ n → GoBack most (drop m es) → GoBack most (drop n es)
 back-on [] m zero most h a = tt
 back-on [] m (suc n) most h a = tt

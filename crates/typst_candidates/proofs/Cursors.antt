@@ -19,7 +19,7 @@ nothing-left [] (suc n) h = refl
 nothing-left (e ∷ es) zero h = absurd (cc)
 nothing-left (e ∷ es) (suc n) h = nothing-left es n h
 
--- by the place before it
+-- an entry is found by the place before it
 pub after-found-in : (es : List Entry) (place : EntryPlace) (e : Entry) → place.entries ≡ es → ◌≡◌ {A = Option Entry} (Some e) (entry_after place) → slice_get es place.number ≡ Some e
 after-found-in es place e a h = ap (λ us. slice_get us place.number) (sym a) ∙ sym h
 
@@ -35,7 +35,7 @@ end-within start zero es = end-after start es
 end-within start (suc n) [] = omega arith
 end-within start (suc n) (e ∷ es) = end-within ((start + e.step) + e.gap) n es
 
--- after an entry more
+-- where entries end after one more
 pub end-step : (es : List Entry) (n : ℕ) (e : Entry) → slice_get es n ≡ Some e → end_of 0 (take (suc n) es) ≡ (end_of 0 (take n es) + e.step) + e.gap
 end-step es n e h = rw (one-further es n e h, end-append)
 

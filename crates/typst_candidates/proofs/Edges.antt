@@ -54,9 +54,6 @@ holds_here f at (x ∷ ts) (suc n) d h = holds_here f (at + length (text_of x)) 
 pub holds_at_byte : (f : Child → Bool) (at : ℕ) (ts : List Tree) (n byte : ℕ) (d : Tree) → n < length ts → byte ≡ begins at ts n → holds_at f (laid at ts) n ≡ f (record { start = byte; end = byte + length (text_of (get_or ts n d)); node = get_or ts n d })
 holds_at_byte f at ts n byte d h e = holds_here f at ts n d h ∙ ap (λ (b : ℕ). f (record { start = b; end = b + length (text_of (get_or ts n d)); node = get_or ts n d })) (sym e)
 
-pub or_left : (a b : Bool) → a ≡ true → (a || b) ≡ true
-or_left a b e = rw e refl
-
 pub or_right : (a b : Bool) → a ≡ false → (a || b) ≡ b
 or_right a b e = rw e refl
 
@@ -149,7 +146,7 @@ ended_all b at ts n known h = grind (arith, drop_of_length-le)
 pub first_stop : (b at : ℕ) (ts : List Tree) (n m : ℕ) → Begun b at ts n → b ≤ begins at ts n → m ≡ n - 1 → m ≡ first_near b (laid at ts)
 first_stop b at ts n m known h e = omega (arith, e, begun_stop b at ts n known h)
 
--- from the last one back
+-- how many children begin before a byte, counted from the last one back
 begun_here : (b at : ℕ) (ts : List Tree) (n : ℕ) → Begun b at ts n → (n < length ts → b ≤ begins at ts n) → begun b (laid at ts) ≡ n
 begun_here b at ts n known after = grind (arith, begun_stop b at ts n known, begun_all b at ts n known)
 

@@ -134,7 +134,7 @@ Rest ns rs re path at parent a ts i o = elim o as (λ _. List Candidate) [
 ]
 
 module _ (ns : List Note) (rs re : ℕ) (path : List ℕ) (at a : ℕ) (t : Tree) (ts : List Tree) (near : Near) (kids : trees t.kids ≡ ts) (inside : at + length t.head.text ≡ a) (is : IsNear a ts rs re near) where
-  -- the same over the children at hand
+  -- what lies below, over the children at hand
   in_hand : below ns rs re path at t ≡ Rest ns rs re path at t.head.kind a ts near.first.index (child_at (laid a ts) near.first.index)
   in_hand = grind arith
 

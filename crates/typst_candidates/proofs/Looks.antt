@@ -7,7 +7,7 @@ here-is start n a b = omega arith
 
 -- ---- the front
 
-step-front : (at start : ℕ) (n : Note) (es : List Entry) → start ≤ n.before → n.before ≤ n.start
+pub step-front : (at start : ℕ) (n : Note) (es : List Entry) → start ≤ n.before → n.before ≤ n.start
     → front_of at start (entry_of start n ∷ es) ≡ (if nat_le (n.start + (n.reach - n.start)) at then suc (front_of at n.start es) else 0)
 step-front at start n es a b = ap (λ here. if nat_le (here + (n.reach - n.start)) at then suc (front_of at here es) else 0) (here-is start n a b)
 

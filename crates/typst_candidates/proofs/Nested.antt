@@ -21,11 +21,11 @@ pieces-here inside start n t es a b e = grind arith
 
 -- ---- rising notes
 
-rising-second : (start : ℕ) (ns ms : List Note) → IsRising start (ns ++ ms) → IsRising (last_start start ns) ms
+pub rising-second : (start : ℕ) (ns ms : List Note) → IsRising start (ns ++ ms) → IsRising (last_start start ns) ms
 rising-second start [] ms h = h
 rising-second start (n ∷ ns) ms h = rising-second n.start ns ms h.2
 
-last-both : (start : ℕ) (ns ms : List Note) → last_start start (ns ++ ms) ≡ last_start (last_start start ns) ms
+pub last-both : (start : ℕ) (ns ms : List Note) → last_start start (ns ++ ms) ≡ last_start (last_start start ns) ms
 last-both start [] ms = refl
 last-both start (n ∷ ns) ms = last-both n.start ns ms
 
@@ -57,7 +57,7 @@ up-to-own-end levels inner c later nest m e = grind (arith, nat_tests, append-ni
 abbrev made : ℕ → List Note → List Entry
 made start ns = entries_by start ns
 
-flat-block : (o c : Note) (inner later ms : List Note) → (o ∷ (inner ++ c ∷ later)) ++ ms ≡ o ∷ (inner ++ (c ∷ (later ++ ms)))
+pub flat-block : (o c : Note) (inner later ms : List Note) → (o ∷ (inner ++ c ∷ later)) ++ ms ≡ o ∷ (inner ++ (c ∷ (later ++ ms)))
 flat-block o c inner later ms = ap (λ vs. o ∷ vs) (append_assoc inner (c ∷ later) ms)
 
 last-block : (start : ℕ) (o c : Note) (inner later : List Note) → last_start start (o ∷ (inner ++ c ∷ later)) ≡ last_start c.start later

@@ -2,11 +2,11 @@
 use Rattle.std.proofs.Common.{◌≡◌, ℕ, ◌+◌, ◌-◌, ◌%◌, ◌^◌, ◌<◌, ap, ◌∙◌, arith}
 use Rattle.std.proofs.Math.Nat.{mod-add-mod}
 
--- two numbers more
+-- a sum round the machine with two numbers more
 pub two-more : (sum all a b : ℕ) → sum ≡ all % 2 ^ 64 → ((sum + a) % 2 ^ 64 + b) % 2 ^ 64 ≡ (all + (a + b)) % 2 ^ 64
 two-more sum all a b h = grind arith
 
--- one number more
+-- a sum round the machine with one number more
 pub one-more-round : (sum all a : ℕ) → sum ≡ all % 2 ^ 64 → (sum + a) % 2 ^ 64 ≡ (all + a) % 2 ^ 64
 one-more-round sum all a h = ap (λ n. (n + a) % 2 ^ 64) h ∙ mod-add-mod all (2 ^ 64) a
 

@@ -70,7 +70,7 @@ not-covering rs re s t there f = ap (Test rs re s) there ∙ (λ k. if f k then 
 pub is-covering : (rs re : ℕ) (s : Stop) (t : Tree) → slice_get (kids s) s.near.first.index ≡ Some t → is_covered rs re s.near t.head.is_inner ≡ true → covering rs re s ≡ Some t
 is-covering rs re s t there f = ap (Test rs re s) there ∙ (λ k. if f k then Some t else None)
 
--- there is such a child
+-- there is a child that covers the bytes
 pub record Covered (rs re : ℕ) (s : Stop) (t : Tree) : Type 0 where
   pub within : s.near.first.index < length (kids s)
   pub is : t ≡ get_or (kids s) s.near.first.index t
@@ -103,17 +103,17 @@ none-below ns rs re path s near e = pick (slice_get (kids s) s.near.first.index)
     pick None there same = below_none ns rs re path s.at (inside s) s.node.now (kids s) s.near refl refl near (past (kids s) s.near.first.index there)
     pick (Some u) there same = test u there (is_covered rs re s.near u.head.is_inner) refl same
 
--- it alone is near them
+-- the covered child alone is near the bytes
 pub alone : (rs re : ℕ) (near : Near) (inner : Bool) → is_covered rs re near inner ≡ true → near.end.index ≡ suc near.first.index
 alone rs re near inner covers = grind (arith, nat_tests)
 
--- its end can be counted
+-- the covered child's end can be counted
 pub covered-fits : (rs re : ℕ) (s : Stop) (t : Tree) → Covered rs re s t → s.near.first.byte + length (text_of t) < 2 ^ 64
 covered-fits rs re s t is =
     let same : length (text_of t) ≡ length (text_of (get_or (kids s) s.near.first.index t)) = ap (λ (v : Tree). length (text_of v)) is.is in
     omega (arith, child_fits (inside s) (kids s) s.near.first.index t is.within (fits_of s.at (inside s) s.node.now (kids s) refl refl s.fits), same, s.first.byte)
 
--- it has fewer nodes
+-- the covered child has fewer nodes
 pub covered-fewer : (rs re : ℕ) (s : Stop) (t u : Tree) → Covered rs re s t → u ≡ t → nodes u < nodes s.node.now
 covered-fewer rs re s t u is e = grind (arith, forest_trees, fewer)
 

@@ -64,7 +64,7 @@ stepped at start back (suc n) es d some le s b = let one : suc n - 1 ≡ n = ome
 pub blank : Entry
 blank = record { kind = entry_kind.Piece false; step = 0; gap = 0; forth = 0; back = 0; count = 0 }
 
--- there it stops
+-- the walk back stops at an entry that isn't after the place
 pub stops : (at start back number : ℕ) (es : List Entry) → 0 < number → number ≤ length es → start ≡ end_of 0 (take number es) → is_after at start back ≡ false
     → number ≡ rear_of at 0 0 (take number es) back
 stops at start back zero es some le s b = absurd (omega (arith, some))

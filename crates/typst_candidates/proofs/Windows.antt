@@ -12,14 +12,14 @@ among_within w b (c ∷ cs) from to = grind (arith, nat_tests, among_within w b 
 leads_within : (w : Window) (bs : List ℕ) (c : Child) → w.from ≤ c.start → c.start ≤ w.to → leads (within w bs) c ≡ leads bs c
 leads_within w bs c from to = ap (λ (o : Bool). nat_lt c.start c.end && o) (among_within w c.start bs from to)
 
--- ---- the same test where it says the same
+-- ---- tests that agree
 
 holds_same : (f g : Child → Bool) (at : ℕ) (ts : List Tree) (n : ℕ) → ((c : Child) → c.start ≡ begins at ts n → f c ≡ g c) → holds_at f (laid at ts) n ≡ holds_at g (laid at ts) n
 holds_same f g at [] n same = refl
 holds_same f g at (t ∷ ts) zero same = same (record { start = at; end = at + length (text_of t); node = t }) refl
 holds_same f g at (t ∷ ts) (suc n) same = holds_same f g (at + length (text_of t)) ts n same
 
-back_most : (f : ℕ → Bool) (n : ℕ) → back_past f n ≤ n
+pub back_most : (f : ℕ → Bool) (n : ℕ) → back_past f n ≤ n
 back_most f zero = omega arith
 back_most f (suc n) = grind (arith, back_most f n)
 
@@ -30,7 +30,7 @@ back_same f g (suc n) same = pick (back_same f g n) (f (suc n)) refl
     pick : (((k : ℕ) → back_past f n ≤ k → k ≤ n → f k ≡ g k) → back_past f n ≡ back_past g n) → (b : Bool) → f (suc n) ≡ b → back_past f (suc n) ≡ back_past g (suc n)
     pick less b e = grind (arith, back_most)
 
-on_least : (f : ℕ → Bool) (limit n : ℕ) → n ≤ on_past f limit n
+pub on_least : (f : ℕ → Bool) (limit n : ℕ) → n ≤ on_past f limit n
 on_least f zero n = omega arith
 on_least f (suc limit) n = grind (arith, on_least f limit (suc n))
 
@@ -43,7 +43,7 @@ on_same f g (suc limit) n same = pick (on_same f g limit (suc n)) (f n) refl
 
 -- ---- a stretch in a window
 
-hash_most : (cs : List Child) (n : ℕ) → with_hash cs n ≤ n
+pub hash_most : (cs : List Child) (n : ℕ) → with_hash cs n ≤ n
 hash_most cs n = grind arith
 
 module _ (w : Window) (bs : List ℕ) (at : ℕ) (ts : List Tree) (i j x : ℕ) (order : i ≤ j) (last : j ≤ length ts)

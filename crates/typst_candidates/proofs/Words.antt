@@ -75,7 +75,7 @@ tagged e number rest word t n w h = grind arith
 
 -- ---- one word more
 
--- which holds an entry
+-- one more word that holds an entry
 pub push-word : (ps : List Packed) (w : Packed) (ws : List Entry) (e : Entry) → wides ps ≡ length ws → entry_in w ≡ Some e → unpacked (ps ++ w ∷ []) ws ≡ unpacked ps ws ++ e ∷ []
 push-word ps w ws e h held = simp (append-nil, held) at (unpacked-append ps (w ∷ []) ws [] h)
 

@@ -50,11 +50,11 @@ is_sign (c ∷ d ∷ cs) = false
 abbrev pub clings : Tree → Bool
 clings t = is_trivia t.head.kind || (is_error t.head.kind || (same kind.Semicolon t.head.kind || (not t.head.is_inner && is_sign t.head.text)))
 
--- a hash
+-- whether the node is a hash
 abbrev pub is_hash : Tree → Bool
 is_hash t = same kind.Hash t.head.kind
 
--- a byte is one of some
+-- whether a byte is one of some
 abbrev pub is_among : ℕ → List ℕ → Bool
 is_among b [] = false
 is_among b (c ∷ cs) = b == c || is_among b cs

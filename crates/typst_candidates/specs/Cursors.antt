@@ -149,7 +149,7 @@ pieces_of inside start (e ∷ es) =
     let after = elim (inside_after e.kind inside) as (λ _. List ℕ) [ None ↦ [] | Some further ↦ pieces_of further (token_at start e) es ] in
     if leads e.kind inside then token_at start e ∷ after else after
 
--- a content block begins
+-- whether a content block begins with it
 abbrev pub opens_content : EntryKind → Bool
 opens_content (entry_kind.Piece at_start) = false
 opens_content (entry_kind.Opens block m) = is_content block

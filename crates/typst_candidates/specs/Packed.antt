@@ -46,7 +46,7 @@ entry_by t w rest = record {
   count = rest / 2 ^ w.step / 2 ^ w.gap / 2 ^ w.forth / 2 ^ w.back;
 }
 
--- no entry
+-- what a word holds that holds no entry
 abbrev pub nothing : Option Entry
 nothing = None
 

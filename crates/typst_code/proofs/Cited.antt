@@ -24,7 +24,7 @@ pub use Rattle.typst_language.proofs.Either.{Back, back-changed, back-chosen, ba
 pub use Rattle.typst_language.proofs.Grows.{Grows, grows-init, grows-last, grows-next, grows-stuck}
 pub use Rattle.typst_language.proofs.Nests.{Nests, nests-last, nests-next}
 pub use Rattle.typst_language.proofs.Nots.{is-not, is-so}
-pub use Rattle.typst_language.proofs.Steps.{Turning, does-deepest, does-gives, does-last, does-next, does-node, does-other, does-peek, does-pick, does-scoped, does-shape, loose-knows, rewrapped-loose, turning-next}
+pub use Rattle.typst_language.proofs.Steps.{Turning, does-deeper, does-gives, does-last, does-next, does-node, does-other, does-peek, does-pick, does-scoped, does-shape, does-too-deep, loose-knows, rewrapped-loose, turning-next}
 pub use Rattle.typst_language.proofs.Values.{does-entered, does-value}
 pub use Rattle.typst_language.specs.Bytes.{bytes_left}
 pub use Rattle.typst_language.specs.Depth.{is_end}

@@ -4,8 +4,8 @@ use Rattle.std.specs.declared.alloc.AllocError.{AllocError}
 use Rattle.typst_language.specs.declared.calls.Block.TheVariants as block
 use Rattle.typst_language.specs.Meaning.{Level}
 use Rattle.typst_language.specs.Syntax.{Parser}
-use Rattle.typst_language.specs.View.{View, Frame, Fills, ReadsBlock, Reads, ReadsBy}
-use Rattle.typst_markup.specs.Markup.{content_block}
+use Rattle.typst_language.specs.View.{View, Frame, Fits, ReadsBlock, MeansWhere}
+use Rattle.typst_markup.specs.Outside.{Outside}
 use Rattle.typst_lines.specs.Place.{Place}
 use Rattle.typst_language.specs.declared.reading.Reading.{Reading}
 use Rattle.typst_code.specs.Parens.{guess_of}
@@ -13,15 +13,15 @@ use Rattle.typst_code.specs.Sequences.{code_block}
 
 -- each block may be read there
 pub record Blocks (l : Level) : Type 0 where
-  pub content : ReadsBlock l block.Content content_block
+  pub outside : Outside l
   pub code : ReadsBlock l block.Code code_block
   -- what is known of first readings is what they find
   pub guess : (z : Place) (outer : Reading) → l.guess l.levels z outer ≡ guess_of l z outer
 
 -- `Means`, at a level where blocks may be read
 abbrev pub MeansAround : {A : Type 0} → Frame → Parser A → View → Result A AllocError → View → Type 0
-MeansAround f q old r new = (l : Level) → Fills l f → Blocks l → Reads l q old r new
+MeansAround f q old r new = MeansWhere (λ l says. Blocks l → says) Fits Fits (λ a. a) f q old r new
 
 -- `MeansBy`, at a level where blocks may be read
 abbrev pub MeansAroundBy : {A B : Type 0} → Frame → (B → A) → Parser A → View → Result B AllocError → View → Type 0
-MeansAroundBy f told q old r new = (l : Level) → Fills l f → Blocks l → ReadsBy l told q old r new
+MeansAroundBy f meant q old r new = MeansWhere (λ l says. Blocks l → says) Fits Fits meant f q old r new

@@ -10,12 +10,11 @@ ghost use Rattle.typst_code.specs.Outside.{MeansAround, MeansAroundBy};
 
 use crate::groups::{begins_item, pair, spread};
 use crate::heads::{calls_directly, opens_arguments};
-use crate::sequences::read_content;
 use std::alloc::AllocError;
 use typst_bindings::separator;
 use typst_kinds::{Names, SyntaxKind};
 use typst_language::{AtNewline, Levels, NodeChange, Parser};
-use typst_markup::{Key, opens_directly, with_argument, wrap_named};
+use typst_markup::{Key, opens_directly, read_content, with_argument, wrap_named};
 
 /// Makes one node of a named argument: its key has to be a name, one that wasn't seen.
 fn wrap_argument(

@@ -11,7 +11,7 @@ use crate::groups::group;
 use crate::heads::{CodeHead, CodeTail, code_head, code_tail};
 use crate::imports::module_import;
 use crate::parens::parens;
-use crate::sequences::{read_code, read_content};
+use crate::sequences::read_code;
 use crate::statements::{
     conditional, contextual, field, for_loop, func_return, jump, module_include, set_rule,
     show_rule, while_loop,
@@ -20,7 +20,7 @@ use std::alloc::AllocError;
 use typst_bindings::{let_binding, named, placeholder};
 use typst_kinds::{Assoc, BinOp, SyntaxKind, UnOp};
 use typst_language::{Levels, Parser, deeper_code_expr};
-use typst_markup::equation;
+use typst_markup::{equation, read_content};
 
 /// Reads an operator and its operand.
 fn unary_expr<L: Levels>(g: &L, p: &mut Parser<'_>, op: UnOp) -> Result<(), AllocError>

@@ -13,7 +13,7 @@ use std::alloc::AllocError;
 use typst_bindings::code_expression;
 use typst_kinds::{SyntaxKind, SyntaxMode};
 use typst_language::{AtNewline, Block, Levels, Parser, Reading, Stops, too_deep};
-use typst_markup::{begins_code, content_block};
+use typst_markup::begins_code;
 
 /// Reads statements up to a stop.
 pub fn code_exprs<L: Levels>(g: &L, p: &mut Parser<'_>, stop: CodeStop) -> Result<(), AllocError>
@@ -133,17 +133,6 @@ pub(crate) fn read_code<L: Levels>(g: &L, p: &mut Parser<'_>) -> Result<(), Allo
 {
     p.open_block(Block::Code, g)?;
     code_block(g, p)?;
-    p.close_block(g)?;
-    Ok(())
-}
-
-/// Reads a content block as a unit, which is noted where it begins and where it ends.
-pub(crate) fn read_content<L: Levels>(g: &L, p: &mut Parser<'_>) -> Result<(), AllocError>
-    requires { L.may_call g.now }
-    ensures { MeansAround (L.frame g.now) (read_block Block.Content) p.old result p.new }
-{
-    p.open_block(Block::Content, g)?;
-    content_block(g, p)?;
     p.close_block(g)?;
     Ok(())
 }

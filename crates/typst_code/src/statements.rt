@@ -8,12 +8,12 @@ ghost use Rattle.typst_code.specs.Statements as spec;
 ghost use Rattle.typst_code.specs.Outside.{MeansAround, MeansAroundBy};
 
 use crate::arguments::arguments;
-use crate::sequences::{read_code, read_content};
+use crate::sequences::read_code;
 use std::alloc::AllocError;
 use typst_bindings::{code_expression, expression_if};
 use typst_kinds::{Names, SyntaxKind, set};
 use typst_language::{Levels, Parser, Role, deeper_code_expr, deeper_pattern};
-use typst_markup::begins_code;
+use typst_markup::{begins_code, read_content};
 
 /// Reads `{ .. }` or `[ .. ]`.
 fn any_block<L: Levels>(g: &L, p: &mut Parser<'_>) -> Result<(), AllocError>

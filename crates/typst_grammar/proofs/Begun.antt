@@ -130,7 +130,7 @@ module _ (token : Type 0) (a : AtHand) where
 
 -- ---- formulas
 
--- a token begins it
+-- whether a token begins the formula
 abbrev opens_math : MathHead → Bool
 opens_math in_math.Missing = false
 opens_math _ = true

@@ -29,7 +29,7 @@ module _ (k : CharClasses) where
   plain-block block.Content = (unbinary-node kind.ContentBlock inside_content refl (proper-inside-content free (λ _ _. refl)), λ _. tt)
   plain-block block.Code = (unbinary-node kind.CodeBlock inside_code refl (proper-inside-code free), λ _. tt)
 
-  -- so do its blocks
+  -- a level's blocks bind if its calls do
   blocks-bind : (levels : ℕ) → CallsBind levels → (b : Block) → AllBind (blocks_of (rules k) k levels (meaning k levels) b)
   blocks-bind levels d b = binds-run (blockless k levels (meaning k levels)) d (λ x z s h. record { nodes = tt; known = h }) _ (refl, λ _. plain-block b)
 

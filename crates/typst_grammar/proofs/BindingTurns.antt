@@ -20,7 +20,7 @@ module _ (sgn : Tree) (rs : List Tree) where
       by-trivia : (x : Bool) → left_binds n (ls ++ sgn ∷ rs) ≡ true → (if x then left_binds n (ls ++ sgn ∷ rs) else binds_by n t) ≡ true
       by-trivia x r = grind arith
 
--- the last of them
+-- the last of the nodes on the right binds them
 right-of : (n : ℕ) (rs : List Tree) → LastIs (Unit {0}) (BindsBy n) rs → right_binds n rs ≡ true
 right-of n [] h = refl
 right-of n (r ∷ []) h = h

@@ -34,7 +34,7 @@ abbrev pub every : (SyntaxKind → Bool) → List SyntaxKind → Bool
 every f [] = true
 every f (k ∷ ks) = f k && every f ks
 
--- and so of those among them
+-- what holds of every kind of a list holds of each
 pub every-among : (f : SyntaxKind → Bool) (ks : List SyntaxKind) → every f ks ≡ true → (k : SyntaxKind) → among ks k ≡ true → f k ≡ true
 every-among f [] h k e = absurd (cc)
 every-among f (j ∷ ks) h k e = of-first (same j k) refl (λ others. every-among f ks (and_parts (f j) (every f ks) h).1 k others)

@@ -1,5 +1,5 @@
 -- Expressions with operators bind.
-use Rattle.typst_grammar.proofs.Cited.{nat_tests, ◌==◌, if◌then◌else◌, ◌≡◌, ℕ, suc, ◌≤◌, Bool, true, false, List, [], length, Option, refl, ◌⊎◌, inl, inr, subst, arith, Place, moved, forest, CharClasses, CodeExpr, anywhere, too_deep, deeper, meaning_of, ◌>>◌, gives, code_expr, code_primary, code_tail, code_tail_turn, Hand, as_at_hand, Point, pending, Shape, grow, node, within, Outcome, Level, plain, deeper_by_one, joined, bound, growths, growing, hand_of, hand_asks_of, asked, run, hand-again, sane-at, no-end, any_errors}
+use Rattle.typst_grammar.proofs.Cited.{◌==◌, if◌then◌else◌, ◌≡◌, ℕ, suc, ◌≤◌, Bool, true, false, List, [], length, Option, refl, ◌⊎◌, inl, inr, subst, arith, Place, moved, forest, CharClasses, CodeExpr, anywhere, too_deep, deeper, meaning_of, ◌>>◌, gives, code_expr, code_primary, code_tail, code_tail_turn, Hand, as_at_hand, Point, pending, Shape, grow, node, within, Outcome, Level, plain, deeper_by_one, joined, bound, growths, growing, hand_of, hand_asks_of, asked, run, hand-again, sane-at, no-end, any_errors}
 use Rattle.typst_grammar.specs.Grammar.{rules, level_at}
 use Rattle.typst_grammar.proofs.Fine.{All, is_ordinary}
 use Rattle.typst_grammar.proofs.FineRuns.{if_by, Gives, gives-run, PlainBy, Still, still-hand}
@@ -11,6 +11,7 @@ use Rattle.typst_grammar.proofs.BindingLevels.{CallsBind, DeeperOperands, level-
 use Rattle.typst_grammar.proofs.Lost.{Holds, Lost, operand-lost}
 use Rattle.typst_grammar.proofs.Primary.{primary-begins}
 use Rattle.typst_grammar.proofs.Tails.{turn-turned}
+use Rattle.typst_tree.proofs.KeepsOrder.{positive}
 
 -- ---- what a turn reads and says
 
@@ -41,7 +42,7 @@ ordinary-expr least = (
 
 -- ---- expressions
 
--- after a look
+-- what is an operand is one after a look
 operand-after : (k : CharClasses) (least : ℕ) {A B : Type 0} (z : Place) (s t : Point) (b : B) (asks : List _) (m : Bool) (o : Outcome A) → t.is_after_error ≡ s.is_after_error → Operand k least z t o → Operand k least z s (joined (record (plain b t) { asks = asks; met = m }) o)
 operand-after k least z s t b asks m o e h = grind (arith, standing-none)
 
@@ -74,9 +75,6 @@ module _ (k : CharClasses) (levels : ℕ) (d : CallsBind k levels) (ops : Deeper
 -- ---- one level deeper
 
 module _ (k : CharClasses) where
-  is-some : (n : ℕ) → (suc n == 0) ≡ false
-  is-some n = grind (arith, nat_tests)
-
   by-depth : (least : ℕ) (z : Place) (s : Point) (a : Outcome (Unit {0})) (c : Outcome (Unit {0})) → Operand k least z s c → (b : Bool) → b ≡ false → Operand k least z s (joined (record (plain b s) { met = b }) (if b then a else c))
   by-depth least z s a c h true e = absurd (cc)
   by-depth least z s a c h false e = operand-after k least z s s false [] false c refl h
@@ -87,7 +85,7 @@ module _ (k : CharClasses) where
 
   pub deeper-binds : (levels : ℕ) (d : CallsBind k levels) → DeeperOperands k levels → DeeperOperands k (suc levels)
   unfolding run deeper
-  deeper-binds levels d ops least z s still = by-depth least z s _ _ (call-binds levels d ops least z s still) (suc levels == 0) (is-some levels)
+  deeper-binds levels d ops least z s still = by-depth least z s _ _ (call-binds levels d ops least z s still) (suc levels == 0) (positive levels)
 
   too-wrong : (z : Place) (s : Point) → any_errors (forest (run (level_at k 0) (too_deep anywhere >> gives (tt {0})) z s).nodes) ≡ false → ⊥
   unfolding run too_deep node

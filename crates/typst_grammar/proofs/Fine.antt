@@ -5,27 +5,11 @@ use Rattle.typst_kinds.specs.declared.kind.SyntaxKind.TheVariants as kind
 use Rattle.typst_tree.specs.Messages.{made_unexpected, made_expected, unexpected_message}
 use Rattle.typst_language.specs.Shape.{Making, made, hinted_last, hinted, NodeChange, is_delimited, renamed_last, parens_renamed, without_parens, on_first, first_changed, Shape, shaped}
 pub use Rattle.typst_grammar.proofs.Lists.{All, all-append, all-take, all-drop, all-map}
-
--- ---- tests
-
-pub or-left : (a b : Bool) → (a || b) ≡ false → a ≡ false
-or-left a b h = grind arith
-
-pub or-right : (a b : Bool) → (a || b) ≡ false → b ≡ false
-or-right a b h = grind arith
-
-pub or-both : (a b : Bool) → a ≡ false → b ≡ false → (a || b) ≡ false
-or-both a b h i = grind arith
-
-pub and-both : (a b : Bool) → a ≡ true → b ≡ true → (a && b) ≡ true
-and-both a b h i = grind arith
+pub use Rattle.std.proofs.lemmas.Bool.{or_from as or-both, and_from as and-both}
+pub use Rattle.typst_language.proofs.Alike.{or-first as or-left, or-second as or-right}
+pub use Rattle.typst_language.proofs.HintedNodes.{advised-kind}
 
 -- ---- several trees
-
--- hints change no kind
-pub kind-advised : (hints : List (List ℕ)) (t : Tree) → (all_advised hints t).head.kind ≡ t.head.kind
-kind-advised [] t = refl
-kind-advised (hint ∷ hints) t = kind-advised hints (advised (hint_with None hint) t)
 
 -- what holds of a tree with hints too
 abbrev pub Steady : (Tree → Type 0) → Type 0
@@ -125,7 +109,7 @@ fine-leaf k s n = and-both (node_binds (leaf_of k s)) true (binds-bare (leaf_of 
 
 -- ---- what becomes of a node
 
--- a node of another kind
+-- a node becomes one of another kind
 module _ (k : SyntaxKind) (e : same kind.Binary k ≡ false) (t : Tree) where
   abbrev renamed-to : Tree
   renamed-to = topped t (record t.head { kind = k })
@@ -191,7 +175,7 @@ abbrev pub making_by : (SyntaxKind → Bool) → Making → Bool
 making_by allows (of_kind k) = allows k
 making_by allows _ = true
 
--- no binary node
+-- the kind of no binary node
 abbrev pub unbinary : SyntaxKind → Bool
 unbinary k = if same kind.Binary k then false else true
 
@@ -202,7 +186,7 @@ is_ordinary kind.CodeBlock = false
 is_ordinary kind.ContentBlock = false
 is_ordinary _ = true
 
--- neither
+-- an ordinary kind that is not of binary nodes
 abbrev pub tame_kind : SyntaxKind → Bool
 tame_kind k = is_ordinary k && unbinary k
 
@@ -224,7 +208,7 @@ tame-ordinary k h = (and_parts (is_ordinary k) (unbinary k) h).0
 pub is-unbinary : (k : SyntaxKind) → unbinary k ≡ true → same kind.Binary k ≡ false
 is-unbinary k h = grind arith
 
--- what allows more
+-- a test that allows more holds too
 module _ (f g : SyntaxKind → Bool) (more : (k : SyntaxKind) → f k ≡ true → g k ≡ true) where
   pub shape-weaker : (shape : Shape) → shape_by f shape ≡ true → shape_by g shape ≡ true
   shape-weaker shape h = grind arith

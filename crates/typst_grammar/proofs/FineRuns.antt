@@ -1,10 +1,11 @@
 -- Parsers that give trees which bind where they have no errors: the words of the language.
-use Rattle.typst_grammar.proofs.Cited.{◌≡◌, ℕ, zero, suc, ◌+◌, ◌-◌, Bool, true, false, if◌then◌else◌, nat_lt, List, [], ◌∷◌, ◌++◌, length, take, drop, Option, Some, None, refl, ap, sym, subst, encode_utf8_all, ◌&&◌, inl, inr, arith, and_parts, CharClasses, same, is_error, is_trivia, SyntaxKind, SyntaxMode, Place, moved, hint_with, Tree, leaf_of, error_of, advised, all_advised, leaf, RawLine, trimmed, first_line, later_lines, is_blank, dedent, front, closing, line_leaves, first_leaves, block_of, block_leaves, inline_leaves, token_node, fault_node, is_raw, has_fields, Token, Block, Call, Mark, Reading, Point, Trivia, pending, Ahead, ahead, ahead_by, after_trivia, direct, hand_at, token_at, len_at, at_trivia, token_by, len_by, Shape, after_node, after_shape, Op, Begin, Parser, erred, takes, takes_so, flushes, complains, advises, marks, is_deepest, gives, does, next, pick, repeat, wraps, grows, nests, scoped, either, calls, block, Outcome, Meaning, Level, less, joined, answered, turns, as_last, bound, repeated, before, reshaped, grown, is_more, growths, growing, nestings, nesting, bounded, given_up, plain, entered, left, taken_node, node_by, reader_so, gave, hand_of, hand_asks_of, done, run, on_both, on_if, has_errors, operator_of, warned, is_whole, only_tag, hints, message, field_node, fields_node, name_node, named_node, names_of, access_node, Fault, codes}
+use Rattle.typst_grammar.proofs.Cited.{◌≡◌, ℕ, zero, suc, ◌+◌, ◌-◌, Bool, true, false, if◌then◌else◌, nat_lt, List, [], ◌∷◌, ◌++◌, length, take, drop, Option, Some, None, refl, ap, sym, subst, encode_utf8_all, ◌&&◌, inl, inr, arith, and_parts, CharClasses, same, is_error, is_trivia, SyntaxKind, SyntaxMode, Place, moved, hint_with, Tree, leaf_of, error_of, advised, all_advised, leaf, RawLine, trimmed, first_line, later_lines, is_blank, dedent, front, closing, line_leaves, first_leaves, block_of, block_leaves, inline_leaves, token_node, fault_node, is_raw, has_fields, Token, Block, Call, Mark, Reading, Point, Trivia, pending, Ahead, ahead, ahead_by, after_trivia, direct, hand_at, token_at, len_at, at_trivia, token_by, len_by, Shape, after_shape, Op, Begin, Parser, erred, takes, takes_so, flushes, complains, advises, marks, is_deepest, gives, does, next, pick, repeat, wraps, grows, nests, scoped, either, calls, block, Outcome, Meaning, Level, less, joined, answered, turns, as_last, bound, repeated, before, reshaped, grown, is_more, growths, growing, nestings, nesting, bounded, given_up, plain, entered, left, taken_node, node_by, reader_so, gave, hand_of, hand_asks_of, done, run, on_both, on_if, has_errors, operator_of, warned, is_whole, only_tag, hints, message, field_node, fields_node, name_node, named_node, names_of, access_node, Fault, codes}
 use Rattle.typst_kinds.specs.declared.kind.SyntaxKind.TheVariants as kind
 use Rattle.typst_language.specs.Raw.{raw_node, delimited_node, closed_node, delimited, two_delimiters, tag_leaves, is_pair, before_ticks, ticks}
 use Rattle.typst_language.specs.declared.calls.Mark.TheVariants as mark
 use Rattle.typst_grammar.proofs.Signs.{sign_of}
-use Rattle.typst_grammar.proofs.Fine.{All, kind-advised, Fine, Fines, fines-all, fines-append, fines-take, fines-hinted, fines-reshaped, all-append, fine-inner, fine-error, fine-leaf, fine-made, no-operator, shape_by, making_by, unbinary, tame_kind, shape-weaker, making-weaker}
+use Rattle.typst_grammar.proofs.Fine.{All, advised-kind, Fine, Fines, fines-all, fines-append, fines-take, fines-hinted, fines-reshaped, all-append, fine-inner, fine-error, fine-leaf, fine-made, no-operator, shape_by, making_by, unbinary, tame_kind, shape-weaker, making-weaker}
+pub use Rattle.typst_language.proofs.Leaves.{shape-known as after-shape-known}
 
 -- ---- nodes of tokens
 
@@ -101,7 +102,7 @@ still-plain : (k : CharClasses) (i : SyntaxKind) (taken : List ℕ) → is_trivi
 still-plain k i taken h = grind arith
 
 still-token : (k : CharClasses) (t : Token) (taken : List ℕ) → is_trivia t.kind ≡ true → Still (token_node k t taken)
-still-token k t taken h = grind (arith, still-plain, still-error, fine-fault, kind-advised)
+still-token k t taken h = grind (arith, still-plain, still-error, fine-fault, advised-kind)
 
 still-ahead : (k : CharClasses) (m : SyntaxMode) (n : ℕ) (z : Place) → All Still (ahead_by k m n z).trivia
 still-ahead k m zero z = tt
@@ -154,12 +155,6 @@ binds-turns m h (suc n) x z s k =
     binds-if (o.value.0 && nat_lt 0 o.taken) (joined o (turns m n o.value.1 (moved o.taken z) o.state)) (as_last o)
     (binds-joined o (turns m n o.value.1 (moved o.taken z) o.state) first (binds-turns m h n o.value.1 (moved o.taken z) o.state first.known))
     (record { nodes = first.nodes; known = first.known })
-
-after-node-known : (b : Bool) (text : List ℕ) (s : Point) → (after_node b text s).known ≡ s.known
-after-node-known b text s = grind arith
-
-pub after-shape-known : (shape : Shape) (ts : List Tree) (s : Point) → (after_shape shape ts s).known ≡ s.known
-after-shape-known shape ts s = grind (arith, on_both, after-node-known)
 
 pub still-shaped : (shape : Shape) (ts : List Tree) (s : Point) → All Still (pending s.known) → All Still (pending (after_shape shape ts s).known)
 still-shaped shape ts s h = subst (λ (x : Option Trivia). All Still (pending x)) (sym (after-shape-known shape ts s)) h

@@ -1,5 +1,5 @@
 -- What takes the token at hand first, at each level: blocks do.
-use Rattle.typst_grammar.proofs.Cited.{◌≡◌, ℕ, zero, suc, ◌+◌, ◌<◌, ◌≤◌, true, false, List, length, take, length-append, Option, None, refl, ap, sym, subst, arith, SyntaxMode, Place, moved, Tree, CharClasses, Block, Reading, Call, Hand, as_at_hand, hand_at, ahead, ahead_by, len_at, Point, Trivia, forgot, hinted, Backs, peek, Parser, next, block, Outcome, Level, less, joined, blockless, plain, closed, hand_of, hand_asks_of, flushed_state, run, length-hinted, sane-meaning, sane-block, length-less}
+use Rattle.typst_grammar.proofs.Cited.{◌≡◌, ℕ, zero, suc, ◌+◌, ◌<◌, ◌≤◌, true, false, List, length, take, length-append, Option, None, refl, ap, sym, subst, arith, SyntaxMode, Place, moved, Tree, CharClasses, Block, Reading, Call, as_at_hand, hand_at, ahead, ahead_by, len_at, Point, Trivia, forgot, hinted, Backs, peek, Parser, next, block, Outcome, Level, less, joined, blockless, plain, closed, hand_of, hand_asks_of, flushed_state, run, length-hinted, sane-meaning, sane-block, length-less}
 use Rattle.typst_grammar.specs.Grammar.{block_production, rules, meaning, level_at}
 use Rattle.typst_grammar.proofs.EatsFirst.{EatsFirst}
 use Rattle.typst_grammar.proofs.Fine.{All, all-take}
@@ -7,11 +7,9 @@ use Rattle.typst_grammar.proofs.FineRuns.{still-hand}
 use Rattle.typst_grammar.proofs.Heads.{Bare, bare-advised}
 use Rattle.typst_grammar.proofs.Leads.{Leads, Eaten, all-bare, all-take-front, all-take-hinted, all-take-less, eats-leads}
 use Rattle.typst_grammar.proofs.Begun.{first-block}
+use Rattle.typst_language.proofs.Runs.{flushed-held}
 
 -- ---- what is left before a block
-
-flushed-by : (ts : List Tree) (h : Hand) (s : Point) → h.trivia ≡ ts → (flushed_state h s).held ≡ s.held
-flushed-by ts h s e = grind arith
 
 -- nothing is known of the trivia: they or the token take something
 pub some-ahead : (k : CharClasses) (m : SyntaxMode) (n : ℕ) (z : Place) → 0 < len_at k m z → 0 < (ahead_by k m n z).gap + (ahead_by k m n z).len
@@ -49,7 +47,7 @@ module _ (k : CharClasses) (levels : ℕ) where
   abbrev pub within_blocks : Level
   within_blocks = blockless k levels (meaning k levels)
 
-  -- in blocks none is read
+  -- where no block may be read, blocks take nothing back
   pub none-back : (b : Block) → Backs (within_blocks.blocks b)
   none-back b z s = record { back = omega arith; left = omega arith }
 
@@ -74,7 +72,7 @@ module _ (k : CharClasses) (levels : ℕ) where
       by-gap zero e =
           let some = some-again k s.held s.known z e (omega (arith, e, h)) in
           let there : moved (hand_of l z s).gap z ≡ moved 0 z = ap (λ (n : ℕ). moved n z) e in
-          let some-flushed = subst (λ (r : Reading). 0 < (hand_at k r None z).gap + (hand_at k r None z).len) (sym (flushed-by (hand_of l z s).trivia (hand_of l z s) s refl)) some in
+          let some-flushed = subst (λ (r : Reading). 0 < (hand_at k r None z).gap + (hand_at k r None z).len) (sym (flushed-held (hand_of l z s).trivia (hand_of l z s) s refl)) some in
           let some-there = subst (λ (w : Place). 0 < (hand_at k t.held None w).gap + (hand_at k t.held None w).len) (sym there) some-flushed in
           let inside = moves-inside b (moved (hand_of l z s).gap z) t some-there in
           omega (arith, inside)

@@ -1,5 +1,5 @@
 -- Expressions of code bind: what grows turn by turn.
-use Rattle.typst_grammar.proofs.Cited.{◌≡◌, ℕ, zero, suc, ◌+◌, ◌≤◌, ◌<◌, Bool, true, false, ◌&&◌, ◌||◌, if◌then◌else◌, nat_lt, List, [], ◌∷◌, ◌++◌, length, take, drop, nat_le, length-append, length-take, append_assoc, Option, Some, None, refl, ap, sym, ◌∙◌, ◌⊎◌, inl, inr, subst, arith, nat_tests, is_error, is_trivia, binary_precedence, BinOp, SyntaxKind, Place, moved, Tree, forest, leaf_of, inner_of, CharClasses, hand_at, Point, Shape, becomes, hinted, Outcome, Meaning, less, joined, answered, bound, inside, reshaped, grown, is_more, growths, length-hinted, moved-sum, less-none, length-less, any_errors, has_errors, first_sign, operator_of, binds_by, right_least, node_binds}
+use Rattle.typst_grammar.proofs.Cited.{◌≡◌, ℕ, zero, suc, ◌+◌, ◌≤◌, ◌<◌, Bool, true, false, ◌&&◌, ◌||◌, if◌then◌else◌, nat_lt, List, [], ◌∷◌, ◌++◌, length, take, drop, nat_le, length-append, length-take, append_assoc, Option, Some, None, refl, ap, sym, ◌∙◌, ◌⊎◌, inl, inr, subst, arith, is_error, is_trivia, binary_precedence, BinOp, SyntaxKind, Place, moved, Tree, forest, leaf_of, inner_of, CharClasses, hand_at, Point, Shape, becomes, hinted, Outcome, Meaning, less, joined, answered, bound, inside, reshaped, grown, is_more, growths, length-hinted, moved-sum, less-none, length-less, any_errors, has_errors, first_sign, operator_of, binds_by, right_least, node_binds}
 use Rattle.typst_kinds.specs.declared.kind.SyntaxKind.TheVariants as kind
 use Rattle.typst_grammar.proofs.Signs.{sign_of, NoSign}
 use Rattle.typst_grammar.proofs.Fine.{All, or-left, or-right, all-append, all-drop, all-map, fines-after, fine-binary, leaf-operator, no-operator, is-unbinary, tame-unbinary, tame_kind}
@@ -195,9 +195,6 @@ module _ (k : CharClasses) (least : ℕ) where
   pub stopped-silent : {A : Type 0} (n : ℕ) (z : Place) (s : Point) (o : Outcome A) (p : Outcome (Option Shape × A)) → Grown n z s o → Silent p → p.value.0 ≡ None → Binds p
       → kind_at (moved p.taken (moved o.taken z)) p.state ≡ kind_at (moved o.taken z) o.state → below least (kind_at (moved o.taken z) o.state) ≡ true → Stopped z s p (turned n o p)
   stopped-silent n z s o p g q none b same l = grind (arith, moved-sum, binds-joined, last-map, standing-silent)
-
-  is-less : (m : ℕ) → 0 < m → nat_lt 0 m ≡ true
-  is-less m h = grind (arith, nat_tests)
 
   stops-if : {A : Type 0} (z : Place) (s : Point) (a b : Bool) (x y : Outcome A) → a ≡ false → Operand z s y → Operand z s (if a && b then x else y)
   stops-if z s a b x y e h = grind arith

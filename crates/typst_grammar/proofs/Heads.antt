@@ -3,8 +3,9 @@ use Rattle.typst_grammar.proofs.Cited.{◌≡◌, ℕ, zero, suc, ◌<◌, Bool,
 use Rattle.typst_kinds.specs.declared.kind.SyntaxKind.TheVariants as kind
 use Rattle.typst_language.specs.Raw.{raw_node, delimited_node, closed_node, block_node, inline_node, delimited, two_delimiters, is_pair, before_ticks, ticks}
 use Rattle.typst_grammar.proofs.Signs.{sign_of}
-use Rattle.typst_grammar.proofs.Fine.{All, Steady, kind-advised, all-drop, no-operator, or-left, or-right, unbinary}
+use Rattle.typst_grammar.proofs.Fine.{All, Steady, advised-kind, all-drop, no-operator, or-left, or-right, unbinary}
 pub use Rattle.typst_grammar.proofs.Parts.{standing-nil as standing-none}
+use Rattle.std.proofs.lemmas.Bool.{not-true}
 
 -- ---- nodes
 
@@ -76,7 +77,7 @@ pub bare-error : (t : Tree) → t.head.kind ≡ kind.Error → Bare t
 bare-error t e = (ap sign_of e, no-operator t (ap (same kind.Binary) e))
 
 pub fault-error : (f : Fault) (taken : List ℕ) → (fault_node f taken).head.kind ≡ kind.Error
-fault-error f taken = kind-advised (hints f taken) (error_of (message f taken) (encode_utf8_all taken))
+fault-error f taken = advised-kind (hints f taken) (error_of (message f taken) (encode_utf8_all taken))
 
 -- a token that becomes a leaf of its kind, where it has no fault
 abbrev pub is_plain : SyntaxKind → Bool
@@ -88,9 +89,6 @@ is_calm k = is_raw k || (is_quiet k && not (is_end k || is_plain k))
 
 raw-is : (i : SyntaxKind) → is_raw i ≡ true → i ≡ kind.Raw
 raw-is i h = grind arith
-
-not-true : (b : Bool) → not b ≡ true → b ≡ false
-not-true b h = grind arith
 
 leafy-by : (i : SyntaxKind) (text : List ℕ) (x y w : Tree) → is_plain i ≡ false → (if is_error i then x else (if is_raw i then y else (if has_fields i then w else leaf_of i text))) ≡ leaf_of i text
 leafy-by i text x y w e = grind arith

@@ -1,7 +1,7 @@
 -- What takes the token at hand first: the trivia before it come first and stay there, and something is taken.
-use Rattle.typst_grammar.proofs.Cited.{◌≡◌, ℕ, zero, suc, ◌+◌, ◌-◌, ◌<◌, ◌≤◌, Bool, true, false, ◌&&◌, if◌then◌else◌, nat_lt, List, [], ◌∷◌, ◌++◌, length, take, length-append, length-take, length-drop, Option, Some, None, refl, ap, sym, ◌⊎◌, inl, inr, subst, arith, is_error, Place, moved, Tree, Block, Call, Hand, as_at_hand, Point, pending, Making, hinted_last, hinted, Shape, shaped, after_node, Tidy, Backs, Begin, Parser, hand, column, takes, gives, does, next, pick, repeat, wraps, grows, nests, scoped, either, calls, block, Outcome, Meaning, Level, less, joined, answered, turns, as_last, before, bound, repeated, entered, inside, reshaped, wrapped, grown, is_more, growths, growing, nestings, nesting, given_up, hand_of, asked, run, hand-again, length-hinted, length-less, on_both, on_if, and_parts}
+use Rattle.typst_grammar.proofs.Cited.{◌≡◌, ℕ, zero, suc, ◌+◌, ◌-◌, ◌<◌, ◌≤◌, Bool, true, false, ◌&&◌, if◌then◌else◌, nat_lt, List, [], ◌∷◌, ◌++◌, length, take, length-append, length-take, length-drop, Option, Some, None, refl, ap, sym, ◌⊎◌, inl, inr, subst, arith, is_error, Place, moved, Tree, Block, Call, Hand, as_at_hand, Point, pending, Making, hinted_last, hinted, Shape, shaped, Tidy, Backs, Begin, Parser, hand, column, takes, gives, does, next, pick, repeat, wraps, grows, nests, scoped, either, calls, block, Outcome, Meaning, Level, less, joined, answered, turns, as_last, before, bound, repeated, entered, inside, reshaped, wrapped, grown, is_more, growths, growing, nestings, nesting, given_up, hand_of, asked, run, hand-again, length-hinted, length-less, on_both, on_if, and_parts}
 use Rattle.typst_language.specs.Syntax.Begin.{at_token, at_trivia}
-use Rattle.typst_language.proofs.Backs.{backs-run, backs-turns, shape-counts, tidy-nestings}
+use Rattle.typst_language.proofs.Backs.{backs-run, backs-turns, shape-counts, tidy-nestings, after_node-le}
 use Rattle.typst_grammar.proofs.EatsFirst.{Begins, EatsFirst, is_at_token}
 use Rattle.typst_grammar.proofs.Fine.{All, Steady}
 use Rattle.typst_grammar.proofs.FineRuns.{Still, still-hand}
@@ -101,9 +101,6 @@ leads-growths {K = K} {L = L} m tidy n (suc fuel) o z h =
     let g = leads-grown n p.value.0 (answered p.value.1 (joined o p)) (leads-answered p.value.1 (leads-joined n o p h (tidy o.value (moved o.taken z) o.state))) in
     on_both (λ u. Leads K L n u) (is_more p.value.0 && nat_lt 0 p.taken) (growths m n fuel more z) more (leads-growths m tidy n fuel more z g) g
 
-after-one : (b : Bool) (text : List ℕ) (s : Point) → (after_node b text s).empties ≤ 1
-after-one b text s = grind arith
-
 -- ---- where it is read
 
 module _ (l : Level) where
@@ -113,7 +110,7 @@ module _ (l : Level) where
 
   eaten-takes : (making : Making) (z : Place) (s : Point) → Eaten z s (run l (does (takes false making)) z s)
   unfolding run
-  eaten-takes making z s = grind (arith, length-append, after-one, all-front, all-bare, still-hand)
+  eaten-takes making z s = grind (arith, length-append, after_node-le, all-front, all-bare, still-hand)
 
   -- the trivia that are known come before a node that begins here
   pub begins-at : (looked : Bool) (begin : Begin) (n : ℕ) (s : Point) → (looked && is_at_token begin) ≡ true → (looked ≡ true → length (pending s.known) ≡ n) → before begin s ≡ n

@@ -1,6 +1,6 @@
 -- After an error that stands before a node, nothing is said of it.
 use Rattle.typst_grammar.proofs.Cited.{◌≡◌, ℕ, zero, suc, ◌+◌, true, false, ◌&&◌, ◌||◌, nat_lt, List, [], ◌∷◌, ◌++◌, take, Option, Some, None, ap, ◌∙◌, ◌⊎◌, inl, inr, arith, and_parts, is_error, Place, moved, Tree, forest, all_advised, CharClasses, Point, Shape, hinted_last, hinted, holds, Backs, Outcome, Meaning, joined, answered, grown, is_more, growths, less-none, on_both, on_if, any_errors}
-use Rattle.typst_grammar.proofs.Fine.{kind-advised, Fines, or-left, or-right}
+use Rattle.typst_grammar.proofs.Fine.{advised-kind, Fines, or-left, or-right}
 use Rattle.typst_grammar.proofs.FineRuns.{AllBind, Binds, binds-joined, still-shaped}
 use Rattle.typst_grammar.proofs.Grown.{Operand}
 
@@ -25,7 +25,7 @@ stuck-take (suc m) (t ∷ ts) us (inr h) = inr (stuck-take m ts us h)
 stuck-last : (hints : List (List ℕ)) (m : ℕ) (ts : List Tree) → Stuck m ts → Stuck m (hinted_last hints ts)
 stuck-last hints zero ts h = absurd h
 stuck-last hints (suc m) [] h = absurd h
-stuck-last hints (suc m) (t ∷ []) (inl e) = inl (on_both (λ (u : Tree). is_error u.head.kind ≡ true) (is_error t.head.kind) (all_advised hints t) t (ap is_error (kind-advised hints t) ∙ e) e)
+stuck-last hints (suc m) (t ∷ []) (inl e) = inl (on_both (λ (u : Tree). is_error u.head.kind ≡ true) (is_error t.head.kind) (all_advised hints t) t (ap is_error (advised-kind hints t) ∙ e) e)
 stuck-last hints (suc m) (t ∷ []) (inr h) = inr h
 stuck-last hints (suc m) (t ∷ u ∷ ts) (inl e) = inl e
 stuck-last hints (suc m) (t ∷ u ∷ ts) (inr h) = inr (stuck-last hints m (u ∷ ts) h)

@@ -29,7 +29,7 @@ pub record Complained (l : Level) (z : Place) (s : Point) (x : Outcome (Unit {0}
   pub taken : x.taken ≡ 0
   pub same : hand_of l z x.state ≡ hand_of l z s
 
--- an error stands there
+-- an error stands there already, and nothing is said
 pub record Stayed (l : Level) (z : Place) (s : Point) (x : Outcome (Unit {0})) : Type 0 where
   pub after : s.is_after_error ≡ true
   pub exact : Exact x []
@@ -39,7 +39,7 @@ pub record Stayed (l : Level) (z : Place) (s : Point) (x : Outcome (Unit {0})) :
 abbrev pub Missed : Level → Place → Point → Outcome (Unit {0}) → Type 0
 Missed l z s x = TookError l z s x ⊎ (Complained l z s x ⊎ Stayed l z s x)
 
--- it is no end
+-- a kind of errors is not the end
 error-goes : (i : SyntaxKind) → is_error i ≡ true → is_end i ≡ false
 error-goes i h = grind arith
 

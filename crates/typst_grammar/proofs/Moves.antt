@@ -5,7 +5,7 @@ use Rattle.typst_grammar.proofs.Cited.{◌≡◌, ℕ, ◌+◌, ◌<◌, Bool, t
 abbrev pub Moves : {A : Type 0} → Level → Parser A → Type 0
 Moves l p = (z : Place) (s : Point) → 0 < (hand_of l z s).gap + (hand_of l z s).len → 0 < (run l p z s).taken
 
--- the same, where the token at hand passes a test
+-- where the token at hand passes a test, and it or its trivia take something, the parser takes something
 abbrev pub MovesAt : {A : Type 0} → Level → (SyntaxKind → Bool) → Parser A → Type 0
 MovesAt l is p = (z : Place) (s : Point) → is (hand_of l z s).kind ≡ true → 0 < (hand_of l z s).gap + (hand_of l z s).len → 0 < (run l p z s).taken
 

@@ -14,7 +14,7 @@ pub record AllBare {A : Type 0} (o : Outcome A) : Type 0 where
   pub all : All Bare o.nodes
   pub some : 0 < length o.nodes
 
--- the same nodes
+-- whether nodes are bare depends on them alone
 pub bare-same : {A B : Type 0} (o : Outcome A) (p : Outcome B) → p.nodes ≡ o.nodes → AllBare o → AllBare p
 bare-same o p e h = let long = ap length e in let some = h.some in record { all = subst (All Bare) (sym e) h.all; some = omega (arith, long, some) }
 

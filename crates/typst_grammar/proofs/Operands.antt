@@ -3,12 +3,12 @@ use Rattle.typst_grammar.proofs.Cited.{◌≡◌, ℕ, ◌<◌, ◌≤◌, Bool,
 use Rattle.typst_kinds.specs.declared.kind.SyntaxKind.TheVariants as kind
 use Rattle.typst_language.proofs.Leaves.{text-made}
 use Rattle.typst_language.proofs.TokenTexts.{text-token}
-use Rattle.typst_grammar.proofs.Fine.{kind-advised}
+use Rattle.typst_grammar.proofs.Fine.{advised-kind}
 use Rattle.typst_grammar.proofs.Heads.{Leafy, takes-making, back-eat}
 
 -- with hints it is an error, or a leaf, as before
 pub leafy-hinted : (hints : List (List ℕ)) (i : SyntaxKind) (text : List ℕ) (t : Tree) → is_error i ≡ false → Leafy i text t → Leafy i text (hinted_error hints t)
-leafy-hinted hints i text t e (inl w) = inl (on_both (λ (u : Tree). u.head.kind ≡ kind.Error) (is_error t.head.kind) (all_advised hints t) t (kind-advised hints t ∙ w) w)
+leafy-hinted hints i text t e (inl w) = inl (on_both (λ (u : Tree). u.head.kind ≡ kind.Error) (is_error t.head.kind) (all_advised hints t) t (advised-kind hints t ∙ w) w)
 leafy-hinted hints i text t e (inr is) = grind arith
 
 -- one node with hints for the last
@@ -33,14 +33,14 @@ pub record Exact {A : Type 0} (o : Outcome A) (ts : List Tree) : Type 0 where
 pub exact-plain : {A : Type 0} (a : A) (s : Point) (asks : List Ask) → Exact (record (plain a s) { asks = asks }) []
 exact-plain a s asks = record { nodes = refl; back = refl; hints = refl }
 
-no-hints : (b c : Bool) (hs js : List (List ℕ)) → hs ≡ [] → js ≡ [] → (if b then hs else (if c then js else hs ++ js)) ≡ []
+pub no-hints : (b c : Bool) (hs js : List (List ℕ)) → hs ≡ [] → js ≡ [] → (if b then hs else (if c then js else hs ++ js)) ≡ []
 no-hints b c hs js e f = grind arith
 
--- one after the other
+-- outcomes with exact nodes, one after the other
 pub exact-joined : {A B : Type 0} (o : Outcome B) (q : Outcome A) (xs ys : List Tree) → Exact o xs → Exact q ys → Exact (joined o q) (xs ++ ys)
 exact-joined o q xs ys h i = grind (arith, less-none, no-hints)
 
--- an answer after it
+-- an outcome with exact nodes, and an answer after it
 pub exact-gives : {A B : Type 0} (o : Outcome B) (a : A) (xs : List Tree) → Exact o xs → Exact (joined o (plain a o.state)) xs
 exact-gives o a xs h = let j = exact-joined o (plain a o.state) xs [] h (exact-plain a o.state []) in record { nodes = j.nodes ∙ append-nil xs; back = j.back; hints = j.hints }
 
@@ -90,7 +90,7 @@ module _ (l : Level) (z : Place) (s : Point) where
   eat-error = after-error (is_error taken_sign.head.kind) (text_of taken_sign)
 
 pub last-kind : (hints : List (List ℕ)) (t : Tree) → is_error t.head.kind ≡ true → is_error (last_hinted hints t).head.kind ≡ true
-last-kind hints t e = grind (arith, on_both, kind-advised)
+last-kind hints t e = grind (arith, on_both, advised-kind)
 
 -- the token of an operator, what is read after it, and an answer
 module _ (l : Level) {A B : Type 0} (z : Place) (s : Point) (d : Outcome A) (b : B) (none : d.back ≡ 0) where

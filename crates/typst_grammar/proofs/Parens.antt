@@ -35,7 +35,7 @@ module _ (token : Type 0) (a : AtHand) where
 
 -- ---- a sign that doesn't come
 
--- the same nodes
+-- with equal nodes a sign comes in neither outcome
 unmet-same : {A B : Type 0} (o : Outcome A) (p : Outcome B) → p.nodes ≡ o.nodes → (Silent o → Silent p) → Unmet o → Unmet p
 unmet-same o p e f h = grind arith
 

@@ -1,10 +1,11 @@
 -- A part of a text that was read by itself.
 use Rattle.typst_grammar.proofs.Cited.{◌≡◌, ℕ, List, [], ◌++◌, ap, ◌∙◌, arith, Tree, Place, CharClasses, Reading, Meaning, Outcome, apart, blockless, standing, start_point, run, Point, hinted, Parser, run-blind, knows-none, View, Goes, Bare, Loose, at, meaning, IsPart, IsResumed, IsGiven, guesses, guessing_at, ReadPart}
-use Rattle.typst_grammar.proofs.AtLevels.{less-nil, hinted-nil, still-kept}
+use Rattle.typst_language.proofs.HintedNodes.{hinted-none}
+use Rattle.typst_grammar.proofs.AtLevels.{less-nil, still-kept}
 
 -- what stands after an outcome where nothing stood before it
 pub standing-nil : {A : Type 0} (o : Outcome A) → standing o [] ≡ o.nodes
-standing-nil o = ap (λ (ns : List Tree). hinted o.hints ns ++ o.nodes) (less-nil o.back) ∙ ap (λ (ns : List Tree). ns ++ o.nodes) (hinted-nil o.hints)
+standing-nil o = ap (λ (ns : List Tree). hinted o.hints ns ++ o.nodes) (less-nil o.back) ∙ ap (λ (ns : List Tree). ns ++ o.nodes) (hinted-none o.hints)
 
 -- what was read where no block may be read, from where nothing is known
 pub part-is : {A : Type 0} (k : CharClasses) (levels : ℕ) (p : Parser A) (a : A) (reading : Reading) (z : Place) (v w : View) (r : ReadPart) → IsResumed z reading v

@@ -1,7 +1,5 @@
 -- Pieces of a run, which are read one after the other.
-use Rattle.typst_grammar.proofs.Cited.{◌≡◌, ℕ, zero, suc, ◌+◌, ◌<◌, ◌≤◌, ◌==◌, Bool, true, false, ◌&&◌, nat_lt, List, [], ◌∷◌, ◌++◌, length, length-append, encode_utf8_all, drop, append_assoc, append-nil, refl, ap, sym, ◌∙◌, subst, arith, nat_tests, SyntaxKind, Place, moved, CharClasses, position, Tree, MarkupExpr, Ask, shift, shift_one, is_end, deeper, Hand, AtHand, as_at_hand, meaning_of, no_log, logged, Outcome, Meaning, Level, guessing, hand_of, asked, joined, standing, run, Point, pending, gap_of, peek, flush_trivia, Parser, ◌>>=◌, hand, gives, does, next, pick, run-blind, hand-takes, hand-again, moved-ahead, moved-sum, within-run, Sound, knows-none, does-next, does-gives, does-peek, does-pick, does-flush, known-few, View, Runs, Does, Goes, Frame, Fills, Fits, Bare, Flushed, at, RunKind, ends, note_piece, markup_turn, markup_expr, markup_reading, stops_of, flushed_state, level_at, IsResumed, IsGiven, HasRead, HasReadOn, ArePieces, made, goes, AllGo, End, end_of, asks_of, given, run_level, first_look, pieces_on, end_on, guesses, guessing_at, fills-apart, sound-apart, lt-ltb, ReadPart}
-use Rattle.std.specs.Char.{encode_utf8}
-use Rattle.typst_lines.proofs.PlaceLemmas.{encode_utf8_nonempty}
+use Rattle.typst_grammar.proofs.Cited.{◌≡◌, ℕ, zero, suc, ◌+◌, ◌<◌, ◌≤◌, Bool, true, false, ◌&&◌, nat_lt, List, [], ◌∷◌, ◌++◌, length, append_assoc, append-nil, refl, ap, sym, ◌∙◌, subst, arith, SyntaxKind, Place, moved, CharClasses, position, Tree, MarkupExpr, Ask, shift, shift_one, is_end, deeper, Hand, AtHand, as_at_hand, meaning_of, no_log, logged, Outcome, Meaning, Level, guessing, hand_of, asked, joined, standing, run, Point, pending, gap_of, peek, flush_trivia, Parser, ◌>>=◌, hand, gives, does, next, pick, run-blind, hand-takes, hand-again, moved-ahead, moved-sum, within-run, Sound, knows-none, does-next, does-gives, does-peek, does-pick, does-flush, known-few, View, Runs, Does, Goes, Frame, Fills, Fits, Bare, Flushed, at, RunKind, ends, note_piece, markup_turn, markup_expr, markup_reading, stops_of, flushed_state, level_at, IsResumed, IsGiven, HasRead, HasReadOn, ArePieces, made, goes, AllGo, End, end_of, asks_of, given, run_level, first_look, pieces_on, end_on, guesses, guessing_at, fills-apart, sound-apart, lt-ltb, ReadPart}
 use Rattle.std.proofs.lemmas.List.{map-append}
 use Rattle.typst_language.specs.Bytes.{bytes_left}
 use Rattle.typst_language.proofs.Logs.{logged-append, logged-shift}
@@ -10,22 +8,10 @@ use Rattle.typst_grammar.specs.declared.part.PieceReader.{PieceReader}
 use Rattle.typst_grammar.proofs.AtLevels.{sound-at, still-kept}
 use Rattle.typst_grammar.proofs.Parts.{standing-nil}
 use Rattle.typst_grammar.proofs.Whole.{eats-expr}
+use Rattle.typst_language.proofs.Bytes.{size, falls}
+use Rattle.typst_tree.proofs.KeepsOrder.{positive}
 
 -- ---- bytes that are left
-
-abbrev size : List ℕ → ℕ
-size xs = length (encode_utf8_all xs)
-
-size-more : (x : ℕ) (xs : List ℕ) → size xs < size (x ∷ xs)
-size-more x xs = omega (arith, length-append (encode_utf8 x) (encode_utf8_all xs), encode_utf8_nonempty x)
-
-size-drop : (n : ℕ) (xs : List ℕ) → size (drop n xs) ≤ size xs
-size-drop zero xs = omega arith
-size-drop (suc n) [] = omega arith
-size-drop (suc n) (x ∷ xs) = omega (arith, size-drop n xs, size-more x xs)
-
-falls : (n : ℕ) (xs : List ℕ) → n ≤ length xs → size xs ≤ size (drop n xs) → n ≡ 0
-falls n xs l h = grind (arith, size-drop, size-more)
 
 -- what takes no bytes takes no characters
 none-taken : (n : ℕ) (y z : Place) → y ≡ moved n z → n ≤ length z.ahead → bytes_left z ≤ bytes_left y → n ≡ 0
@@ -107,9 +93,6 @@ rest-goes : (l : Level) (x : Bool × ℕ) (z : Place) (s : Point) → (run l (re
 unfolding run note_piece
 rest-goes l x z s = refl
 
-not-none : (n : ℕ) → (suc n == 0) ≡ false
-not-none n = grind (arith, nat_tests)
-
 over : (l : Level) (x : Bool × ℕ) (z : Place) (s : Point) → (run l (gives {A = Bool × (Bool × ℕ)} (false, x)) z s).value.0 ≡ false
 unfolding run
 over l x z s = refl
@@ -120,7 +103,7 @@ module _ (k : CharClasses) (n : ℕ) (which : RunKind) where
 
   rest-takes : (x : Bool × ℕ) (z : Place) (s : Point) → 0 < (hand_of at_level z s).len → 0 < (run at_level (rest x) z s).taken
   unfolding run deeper meaning_of
-  rest-takes x z s h = rw (not-none n) (let inside : 0 < (run (level_at k n) (markup_expr x.0 x.1) (moved 0 z) s).taken = eats-expr k n x.0 x.1 z s h in omega (arith, inside))
+  rest-takes x z s h = rw (positive n) (let inside : 0 < (run (level_at k n) (markup_expr x.0 x.1) (moved 0 z) s).taken = eats-expr k n x.0 x.1 z s h in omega (arith, inside))
 
   -- a piece that says that another comes took something
   turn-takes : (x : Bool × ℕ) (z : Place) (s : Point) → (run at_level (markup_turn true (stops_of which) x) z s).value.0 ≡ true → 0 < (run at_level (markup_turn true (stops_of which) x) z s).taken
@@ -149,7 +132,7 @@ takes-at : (k : CharClasses) (levels : ℕ) (which : RunKind) (x : Bool × ℕ) 
 takes-at k zero which x z s some = absurd (omega arith)
 takes-at k (suc n) which x z s some = turn-takes k n which x z s
 
--- the same level, with what is known of first readings
+-- the level of a run, with what is known of first readings
 abbrev pub guessing_in : CharClasses → ℕ → RunKind → Level
 guessing_in k levels which = guessing (guesses k) (run_level k levels which)
 

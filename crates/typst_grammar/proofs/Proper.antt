@@ -52,11 +52,11 @@ unseen c = record { notes = c.notes; given = c.given; seen = false }
 abbrev pub seeing_so : Scope → Bool → Scope
 seeing_so c seen = record { notes = c.notes; given = c.given; seen = seen }
 
--- where this holds too
+-- the scope where this holds too
 abbrev pub given_too : Scope → Type 0 → Scope
 given_too c holds = record { notes = c.notes; given = c.given × holds; seen = c.seen }
 
--- where any mark may be noted
+-- the scope where any mark may be noted
 abbrev pub free : Scope
 free = record { notes = λ m. true; given = Unit {0}; seen = true }
 
@@ -168,7 +168,7 @@ pub proper-shaped : (c : Scope) {A : Type 0} (shape : A → Shape) (p : Parser A
 unfolding node
 proper-shaped c shape p g h = (refl, λ _. ((g, h), λ _. tt))
 
--- whatever is answered
+-- a node is proper if its shape is tame whatever is answered
 pub proper-node : (c : Scope) {A : Type 0} (shape : A → Shape) (p : Parser A) → ((a : A) → tame (shape a) ≡ true) → Proper (unseen c) p → Proper c (node shape p)
 proper-node c shape p g h = proper-shaped c shape p (gives-all (λ a. tame (shape a) ≡ true) g p) h
 
@@ -204,7 +204,7 @@ proper-identifier c = (refl, λ _. ((proper-making _ true (wanted (codes "identi
 pub tame-closed : (k : SyntaxKind) → tame_kind k ≡ true → (closed : Bool) → tame (encloses k closed) ≡ true
 tame-closed k e closed = grind arith
 
--- of each answer
+-- what is tame for both answers is tame for each
 pub tame-both : (f : Bool → Shape) → tame (f true) ≡ true → tame (f false) ≡ true → (b : Bool) → tame (f b) ≡ true
 tame-both f x y true = x
 tame-both f x y false = y

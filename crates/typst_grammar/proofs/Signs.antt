@@ -8,7 +8,7 @@ use Rattle.typst_grammar.proofs.Lists.{All}
 abbrev pub sign_of : SyntaxKind → Option BinOp
 sign_of k = if same kind.Not k then Some binary.NotIn else binary_of k
 
--- it begins none
+-- no operator begins with it
 abbrev pub NoSign : Tree → Type 0
 NoSign t = sign_of t.head.kind ≡ None
 

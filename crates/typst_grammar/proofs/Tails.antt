@@ -19,6 +19,7 @@ use Rattle.typst_grammar.proofs.Begun.{first-tail}
 use Rattle.typst_grammar.proofs.Firsts.{eaten-first}
 use Rattle.typst_grammar.proofs.Missing.{Missed, missed, error-kind}
 use Rattle.typst_grammar.proofs.BindingLevels.{CallsBind, DeeperOperands, level-binds}
+use Rattle.std.proofs.lemmas.Bool.{or_left}
 
 -- ---- kinds of operators
 
@@ -35,9 +36,6 @@ last-front E P [] u [] n h = absurd (cc)
 last-front E P [] u (v ∷ us) n h = last-map (has_errors u ≡ true) E P P (λ e. absurd (cc)) (λ t x. x) (v ∷ us) h
 last-front E P (t ∷ []) u us n h = last-front E P [] u us n h
 last-front E P (t ∷ v ∷ ts) u us n h = last-front E P (v ∷ ts) u us n h
-
-or-true : (a b : Bool) → a ≡ true → (a || b) ≡ true
-or-true a b h = grind arith
 
 module _ (k : CharClasses) (levels : ℕ) (d : CallsBind k levels) (ops : DeeperOperands k levels) where
   abbrev l : Level
@@ -89,7 +87,7 @@ module _ (k : CharClasses) (levels : ℕ) (d : CallsBind k levels) (ops : Deeper
         (leafy-token k (hand_of l v y).token (text_ahead (hand_of l v y).len (moved (hand_of l v y).gap v)) i (hand-kind k y.held y.known v i no_end refl) (or-right (is_end i) (is_plain i) e))
 
     wrong-sign : eaten.state.is_after_error ≡ true → has_errors sgn ≡ true
-    wrong-sign a = or-true (is_error sgn.head.kind) (any_errors sgn.kids) (last-kind operand.hints (taken_sign l v y) (sym (eat-error l v y) ∙ a))
+    wrong-sign a = or_left (is_error sgn.head.kind) (any_errors sgn.kids) (last-kind operand.hints (taken_sign l v y) (sym (eat-error l v y) ∙ a))
 
     whole-taken : whole.taken ≡ eaten.taken + operand.taken
     unfolding run binary_expr

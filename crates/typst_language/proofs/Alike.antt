@@ -2,10 +2,10 @@
 use Rattle.typst_language.proofs.Cited.{◌≡◌, ℕ, zero, suc, Bool, false, ◌&&◌, ◌||◌, if◌then◌else◌, nat_lt, refl, ap, sym, ◌∙◌, subst, Option, arith, rules, Place, moved, CharClasses, Block, Point, Op, Begin, Parser, hand, so, further, column, erred, takes, takes_so, flushes, complains, advises, marks, is_deepest, gives, does, next, pick, repeat, wraps, grows, nests, scoped, either, calls, block, Outcome, Meaning, Level, joined, answered, followed, turns, as_last, bound, repeated, before, wrapped, grown, is_more, growths, growing, nestings, nesting, deeper_by_one, given_up, chosen, entered, left_to, plain, no_guess, done, run, Alike, Call, Answer, Shape}
 use Rattle.typst_language.proofs.Within.{grew, nest}
 
-or-first : (a b : Bool) → (a || b) ≡ false → a ≡ false
+pub or-first : (a b : Bool) → (a || b) ≡ false → a ≡ false
 or-first a b h = grind arith
 
-or-second : (a b : Bool) → (a || b) ≡ false → b ≡ false
+pub or-second : (a b : Bool) → (a || b) ≡ false → b ≡ false
 or-second a b h = grind arith
 
 alike-followed : {A B : Type 0} (m n : Meaning B) (f g : B → Meaning A) → Alike m n → ((b : B) → Alike (f b) (g b))

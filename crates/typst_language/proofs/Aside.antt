@@ -2,11 +2,9 @@
 use Rattle.typst_language.proofs.Cited.{Option, Some, None, ◌≡◌, ℕ, zero, suc, ◌-◌, ◌^◌, ◌<◌, ◌≤◌, max, min, true, false, nat_lt, List, [], ◌∷◌, ◌++◌, length, length-append, append_assoc, get_or, refl, ap, sym, ◌∙◌, arith, set, Place, moved, hull_of, position, Hull, Note, Ask, only_looks, looked, marked, Log, logged, with_hull, Parser, Level, Saved, looked_since, saved, hull_in, listed, looked_alone, looked_before, note_after, notes_after, View, Does, Fits, at, begun, looked_too}
 use Rattle.typst_language.proofs.Either.{Back}
 use Rattle.typst_language.proofs.Logs.{Among, among-is, is-among, same-log}
+use Rattle.typst_lines.proofs.Counts.{below}
 
 -- ---- logs
-
-less-true : (m n : ℕ) → m < n → nat_lt m n ≡ true
-less-true m n h = grind arith
 
 -- the note of a number is exchanged for itself after a look
 notes-set : (n : ℕ) (u : Hull) (ns : List Note) (note : Note) → n < length ns → note ≡ get_or ns n note → notes_after n u ns ≡ set ns n (note_after u note)
@@ -16,7 +14,7 @@ notes-set (suc n) u (x ∷ ns) note h e = ap (λ xs. x ∷ xs) (notes-set n u ns
 
 pub before-noted : (n : ℕ) (u : Hull) (r l m k : ℕ) (ns : List Note) (note : Note) → n < length ns → note ≡ get_or ns n note → m ≡ max note.reach u.reach → k ≡ min note.least u.least
     → ◌≡◌ {A = Log} (record { reach = r; least = l; notes = Some (set ns n (record note { reach = m; least = k })) }) (looked_before n u (record { reach = r; least = l; notes = Some ns }))
-before-noted n u r l m k ns note h e f g = rw (less-true n (length ns) h, f, g, notes-set n u ns note h e) refl
+before-noted n u r l m k ns note h e f g = rw (below n (length ns) h, f, g, notes-set n u ns note h e) refl
 
 -- it counts again at once
 alone-again : (u : Hull) (h : Log) → with_hull u h ≡ h → with_hull (hull_in h) (looked_alone u h) ≡ h
@@ -35,7 +33,7 @@ after-first u [] note ms = refl
 after-first u (x ∷ ns) note ms = ap (λ xs. x ∷ xs) (after-first u ns note ms)
 
 is-noted : (ns : List Note) (note : Note) (ms : List Note) → nat_lt (length ns) (length (ns ++ note ∷ ms)) ≡ true
-is-noted ns note ms = less-true _ _ (omega (arith, length-append ns (note ∷ ms)))
+is-noted ns note ms = below _ _ (omega (arith, length-append ns (note ∷ ms)))
 
 not-less : (n : ℕ) → nat_lt n n ≡ false
 not-less n = grind arith
@@ -87,7 +85,7 @@ before-among u w c h a = grind arith
 pub begun-fits : {l : Level} {old now : View} → now ≡ begun old → Fits l old → Fits l now
 begun-fits {l = l} {old = old} {now = now} e f = grind arith
 
--- it turned out right
+-- a first reading that turned out right is a step
 pub does-aside : {A : Type 0} {l : Level} {p : Parser A} {a : A} {c : Saved} {aside : Hull} {old first mid new : View}
     → first ≡ begun old → aside ≡ hull_in old.log → c ≡ saved first → Does l p a first mid → new ≡ looked_since c aside mid → Does l p a old new
 does-aside {l = l} {p = p} {a = a} {c = c} {aside = aside} {old = old} {first = first} {mid = mid} {new = new} e is at-c d end = grind (arith, begun-fits, logged-before, alone-again, is-among, before-among, among-is)

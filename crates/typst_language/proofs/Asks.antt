@@ -7,7 +7,7 @@ pub found : {k h : SyntaxKind} {b r : Bool} (f : SyntaxKind → Bool) → k ≡ 
 found f e d t = ap f (sym e) ∙ sym d ∙ t
 
 module _ {A : Type 0} {l : Level} {Q : View → Type 0} {p q : AtHand → Parser A} {a : A} {v w : View} {k : SyntaxKind} {b : Bool} where
-  -- the test holds
+  -- the test of the token at hand holds
   pub asks-yes : (f : SyntaxKind → Bool) → k ≡ v.hand.kind → b ≡ f k → b ≡ true → Goes l (Fits l) Q (p (as_at_hand v.hand)) a v w → Goes l (Fits l) Q (next peek (λ ahead. pick (f ahead.kind) (p ahead) (q ahead))) a v w
   asks-yes f e d t done = does-next (does-peek v) (does-pick (found f e d t) done)
 

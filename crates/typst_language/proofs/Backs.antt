@@ -26,10 +26,10 @@ if-le : (b : Bool) (n : ℕ) → (if b then n else 0) ≤ n
 if-le true n = omega arith
 if-le false n = omega arith
 
-count-le : (text : List ℕ) → count_empty text ≤ 1
+pub count-le : (text : List ℕ) → count_empty text ≤ 1
 count-le text = grind arith
 
-after_node-le : (b : Bool) (text : List ℕ) (s : Point) → (after_node b text s).empties ≤ 1
+pub after_node-le : (b : Bool) (text : List ℕ) (s : Point) → (after_node b text s).empties ≤ 1
 after_node-le true text s = count-le text
 after_node-le false text s = omega arith
 

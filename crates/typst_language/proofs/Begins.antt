@@ -1,9 +1,10 @@
 -- Readings that begin by taking the token at hand, and so leave what stood before it.
-use Rattle.typst_language.proofs.Cited.{Option, ◌≡◌, ℕ, ◌+◌, ◌-◌, ◌<◌, ◌==◌, Bool, true, false, if◌then◌else◌, List, [], ◌++◌, length, take, drop, append_assoc, append-nil, length-append, refl, ap, sym, ◌∙◌, subst, arith, moved, Tree, Reading, Point, Trivia, pending, AtHand, Hand, as_at_hand, Making, Shape, shaped, itself, Sound, eat, eat_making, Parser, at_token, hand, takes, does, gives, next, scoped, wraps, Level, Outcome, asked, entered, hand_of, joined, run, View, Ran, Fits, at, Leaves, first_of, take-length}
+use Rattle.typst_language.proofs.Cited.{Option, ◌≡◌, ℕ, ◌+◌, ◌-◌, ◌<◌, Bool, true, false, if◌then◌else◌, List, [], ◌++◌, length, take, drop, append_assoc, append-nil, length-append, refl, ap, sym, ◌∙◌, subst, arith, moved, Tree, Reading, Point, Trivia, pending, AtHand, Hand, as_at_hand, Making, Shape, shaped, itself, Sound, eat, eat_making, Parser, at_token, hand, takes, does, gives, next, scoped, wraps, Level, Outcome, asked, entered, hand_of, joined, run, View, Ran, Fits, at, Leaves, first_of, take-length}
 use Rattle.typst_language.proofs.Backs.{backs-run}
 use Rattle.typst_language.proofs.HintedNodes.{hinted-append, length-hinted}
 use Rattle.typst_language.proofs.Places.{take-both, drop-both, drop-all, less-none}
 use Rattle.typst_language.proofs.Runs.{asked-same}
+use Rattle.typst_lines.proofs.CommonEnds.{same-test}
 
 -- an outcome gives these trivia first, and more, and does nothing to what stood before
 pub record Gives {A : Type 0} (ts : List Tree) (o : Outcome A) : Type 0 where
@@ -25,11 +26,8 @@ front-of xs ys = grind (arith, take-both, append-nil, take-length)
 back-of : (xs ys : List Tree) → drop (length xs) (xs ++ ys) ≡ ys
 back-of xs ys = grind (arith, drop-both, drop-all)
 
-same-length : (n : ℕ) → (n == n) ≡ true
-same-length n = grind arith
-
 first-is : (ts rest held : List Tree) → first_of (length ts) (ts ++ rest) held ≡ ts
-first-is ts rest held = rw (front-of ts rest, same-length (length ts)) refl
+first-is ts rest held = rw (front-of ts rest, same-test (length ts)) refl
 
 pub begins-leaves : {A : Type 0} {l : Level} {p : Parser A} {a : A} {old mid : View} → Begins l p old → Ran l p a old mid → Leaves old mid
 begins-leaves {l = l} {p = p} {old = old} {mid = mid} e r = grind (arith, less-none, front-of, back-of, first-is)
@@ -61,7 +59,7 @@ begins-eat {l = l} {v = v} c =
     let o = at l (does (takes false itself)) v in
     record { gives = gives-next v.hand.trivia o (run l (next (does hand) (λ _. gives tt)) (moved o.taken v.place) o.state) b.gives (omega arith) }
 
--- and an answer
+-- what begins so and then answers begins so
 pub begins-gives : {A B : Type 0} {l : Level} {p : Parser B} {f : B → A} {v : View} → Begins l p v → Begins l (next p (λ b. gives (f b))) v
 unfolding run
 begins-gives {l = l} {p = p} {f = f} {v = v} b = let o = at l p v in record { gives = gives-next v.hand.trivia o (run l (gives (f o.value)) (moved o.taken v.place) o.state) b.gives refl }

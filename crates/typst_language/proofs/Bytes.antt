@@ -3,7 +3,7 @@ use Rattle.typst_language.proofs.Cited.{◌≡◌, ℕ, zero, suc, ◌<◌, ◌�
 use Rattle.typst_lines.proofs.PlaceLemmas.{encode_utf8_nonempty}
 use Rattle.typst_language.proofs.Places.{moved-ahead}
 
-abbrev size : List ℕ → ℕ
+abbrev pub size : List ℕ → ℕ
 size xs = length (encode_utf8_all xs)
 
 size-more : (x : ℕ) (xs : List ℕ) → size xs < size (x ∷ xs)
@@ -17,7 +17,7 @@ size-drop (suc n) (x ∷ xs) = omega (arith, size-drop n xs, size-more x xs)
 pub some-bytes : (n : ℕ) (z : Place) → bytes_left (moved n z) < bytes_left z → 0 < n
 some-bytes n z h = grind arith
 
-falls : (n : ℕ) (xs : List ℕ) → n ≤ length xs → size xs ≤ size (drop n xs) → n ≡ 0
+pub falls : (n : ℕ) (xs : List ℕ) → n ≤ length xs → size xs ≤ size (drop n xs) → n ≡ 0
 falls n xs l h = grind (arith, size-drop, size-more)
 
 pub none-bytes : (n : ℕ) (z : Place) → n ≤ length z.ahead → bytes_left z ≤ bytes_left (moved n z) → n ≡ 0

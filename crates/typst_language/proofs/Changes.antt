@@ -1,16 +1,10 @@
 -- What the first of the nodes from a number on becomes, in its place.
-use Rattle.typst_language.proofs.Cited.{Option, ◌≡◌, ℕ, zero, suc, ◌+◌, ◌<◌, ◌≤◌, true, false, if◌then◌else◌, List, [], ◌∷◌, ◌++◌, length, map, take, drop, get_or, refl, ap, sym, ◌∙◌, subst, arith, take-append-drop, set, is_error, Tree, text_of, Point, Trivia, pending, NodeChange, changed, first_changed, count_empty, after_node, after_change, seen, stays, turns_wrong, is_not, renamed, unparened, keeps, Level, Sound, Parser, at_token, wraps, seeing, View, Does, Rewrapped}
+use Rattle.typst_language.proofs.Cited.{Option, ◌≡◌, ℕ, zero, suc, ◌+◌, ◌<◌, ◌≤◌, true, false, if◌then◌else◌, List, [], ◌∷◌, ◌++◌, length, map, take, drop, get_or, refl, ap, sym, ◌∙◌, subst, arith, take-append-drop, set, is_error, Tree, text_of, Point, Trivia, pending, NodeChange, changed, first_changed, count_empty, after_node, after_change, seen, stays, keeps, Level, Sound, Parser, at_token, wraps, seeing, View, Does, Rewrapped}
 use Rattle.typst_language.proofs.Leaves.{text-changed}
+pub use Rattle.typst_language.proofs.Leaves.{first-is}
 use Rattle.typst_language.proofs.Runs.{rewrapped-fits}
 use Rattle.typst_language.proofs.Steps.{does-next, does-peek, does-wraps}
 use Rattle.typst_language.proofs.Ready.{told-node}
-
-first-is : (change : NodeChange) (t : Tree) (ts : List Tree) → first_changed change (t ∷ ts) ≡ changed change t ∷ ts
-first-is stays t ts = refl
-first-is (turns_wrong message) t ts = refl
-first-is (is_not thing) t ts = refl
-first-is (renamed kind) t ts = refl
-first-is unparened t ts = refl
 
 changed-at : (change : NodeChange) (ts : List Tree) (from : ℕ) (t u : Tree) → from < length ts → t ≡ get_or ts from t → u ≡ changed change t → set ts from u ≡ take from ts ++ first_changed change (drop from ts)
 changed-at change [] from t u h at is = absurd (omega arith)
@@ -41,12 +35,12 @@ pub changed-alone : (change : NodeChange) (from : ℕ) (t u : Tree) (v w : View)
     → w ≡ record v { nodes = set v.nodes from u; state = record v.state { empties = if is_error u.head.kind then count_empty (text_of u) else 0; is_after_error = is_error u.head.kind } } → Rewrapped from (keeps change) v w
 changed-alone change from t u v w long at fine is e = grind (arith, told-node, text-changed, alone-is, after-fine, changed-at)
 
--- one that was an error
+-- a node that stands alone and was an error
 pub changed-error : (change : NodeChange) (from : ℕ) (t u : Tree) (v w : View) → length v.nodes ≡ suc from → t ≡ get_or v.nodes from t → is_error t.head.kind ≡ true → u ≡ changed change t
     → w ≡ record v { nodes = set v.nodes from u } → Rewrapped from (keeps change) v w
 changed-error change from t u v w long at wrong is e = grind (arith, alone-is, after-error, changed-at)
 
--- one before others
+-- a node that stands before others
 pub changed-first : (change : NodeChange) (from : ℕ) (t u : Tree) (v w : View) → suc from < length v.nodes → t ≡ get_or v.nodes from t → u ≡ changed change t → w ≡ record v { nodes = set v.nodes from u } → Rewrapped from (keeps change) v w
 changed-first change from t u v w more at is e = grind (arith, after-more, changed-at)
 

@@ -22,7 +22,7 @@ less-goes k p = grind (arith, goes-if, sign-goes)
 
 -- ---- numbers
 
--- whatever its suffix
+-- a number is no end, whatever its suffix
 abbrev Fine : Numeral → Type 0
 Fine n = (suffix : List ℕ) → is_end (numbered n suffix).kind ≡ false
 

@@ -1,5 +1,5 @@
 -- Where a token is the end, and how many characters another takes.
-use Rattle.typst_language.proofs.Cited.{◌≡◌, ◌<◌, ℕ, zero, suc, Bool, true, false, ◌&&◌, ◌==◌, if◌then◌else◌, List, [], ◌∷◌, take, Some, refl, ap, sym, ◌∙◌, arith, Option, SyntaxKind, SyntaxMode, is_space, CharClasses, line_ends, is_parbreak, whitespace, shebang, line_comment, block_comment, comment_end, sign, answer, of_mode, hash, slash, star, backtick, token, Token, on, is_end, token_node, Reading, token_at, len_at, at_trivia, Ahead, after_trivia, direct, ahead_by, ahead, ahead_of, column_at, known_by, hand_by, hand_at, Trivia, Memory, dot, marker_or_text, marker, hyphen, minus, emphasis, heading, numbering, markup, blank, comment, fence, brackets, quoted, text, text_from, label, is_id_continue, Continue}
+use Rattle.typst_language.proofs.Cited.{◌≡◌, ◌<◌, ℕ, zero, suc, Bool, true, false, ◌&&◌, ◌==◌, if◌then◌else◌, List, [], ◌∷◌, take, Some, refl, ap, sym, ◌∙◌, arith, Option, SyntaxKind, SyntaxMode, is_space, CharClasses, line_ends, is_parbreak, whitespace, shebang, line_comment, block_comment, comment_end, sign, answer, of_mode, hash, slash, star, backtick, token, Token, on, is_end, token_node, Reading, token_at, len_at, at_trivia, Ahead, after_trivia, direct, ahead_by, ahead, ahead_of, hand_at, Trivia, Memory, dot, marker_or_text, marker, hyphen, minus, emphasis, heading, numbering, markup, blank, comment, fence, brackets, quoted, text, text_from, label, is_id_continue, Continue}
 use Rattle.typst_kinds.specs.declared.kind.SyntaxKind.TheVariants as kind
 use Rattle.typst_lines.specs.Place.{Place, scout, passes, moved, run, past}
 use Rattle.typst_tokens.specs.Reader.{Reader, place, spanned}
@@ -12,6 +12,7 @@ use Rattle.typst_language.proofs.Places.{moved-sum}
 use Rattle.typst_language.proofs.Goes.{Goes, goes-if, kind-if, word-goes}
 use Rattle.typst_language.proofs.CodeEnds.{code-goes}
 use Rattle.typst_language.proofs.MathEnds.{backslash-goes, math-goes}
+pub use Rattle.typst_language.proofs.Trivia.{hand-known as hand-again}
 
 text-goes : (k : CharClasses) (p : Place) → Goes (text k) p
 unfolding text
@@ -173,12 +174,3 @@ pub hand-ends : (k : CharClasses) (m : SyntaxMode) (known : Option Trivia) (z : 
     → is_end (hand_at k (record { mode = m; at_newline = Continue }) known z).kind ≡ true → (moved (hand_at k (record { mode = m; at_newline = Continue }) known z).gap z).ahead ≡ []
 unfolding hand_at
 hand-ends k m known z h = grind (arith, ahead_of-read, token-ends, end-continues)
-
-again-by : (k : CharClasses) (held : Reading) (z : Place) (a : Ahead) → Read k held.mode z a
-    → hand_by held (column_at (moved a.gap z)) (record { trivia = a.trivia; gap = a.gap; newlines = a.newlines; token = token_at k held.mode (moved a.gap z); len = len_at k held.mode (moved a.gap z) }) ≡ hand_by held (column_at (moved a.gap z)) a
-again-by k held z a r = cc
-
--- where the trivia were asked for, the token at hand is the same
-pub hand-again : (k : CharClasses) (held : Reading) (known : Option Trivia) (z : Place) → hand_at k held (known_by (hand_at k held known z)) z ≡ hand_at k held known z
-unfolding hand_at
-hand-again k held known z = again-by k held z (ahead_of k held.mode known z) (ahead_of-read k held.mode known z)

@@ -1,9 +1,8 @@
 -- The law of the frame, for whatever the language can say.
 use Rattle.typst_language.proofs.Cited.{◌≡◌, ℕ, zero, suc, ◌+◌, ◌<◌, ◌≤◌, max, Bool, true, false, ◌&&◌, if◌then◌else◌, nat_lt, List, [], ◌∷◌, ◌++◌, length, take, refl, ap, sym, ◌∙◌, subst, arith, Option, Some, None, ltb-true, SyntaxKind, SyntaxMode, Place, moved, CharClasses, token_node, Token, token, and-second, Block, Call, Newlines, Reading, Trivia, Point, gap_of, forgot, Ask, SameIn, shift, looked, token_at, len_at, at_trivia, Hand, AtHand, as_at_hand, Ahead, direct, after_trivia, ahead_by, ahead, asks_by, ahead_asks, ahead_of, ahead_asks_of, column_at, column_look, stops, asks_column, hand_by, hand_at, hand_asks, Shape, Op, Begin, Parser, hand, so, further, column, erred, takes, takes_so, flushes, complains, advises, marks, is_deepest, gives, does, next, pick, repeat, wraps, grows, nests, scoped, either, calls, block, is_trivia, Outcome, Meaning, Level, joined, answered, followed, turns, as_last, bound, repeated, before, wrapped, grown, is_more, growths, growing, nestings, nesting, closed, bounded, deeper_by_one, given_up, chosen, entered, left_to, plain, hand_of, hand_asks_of, asked, flushed_state, reader_so, done, run, Framed, Within}
 use Rattle.typst_kinds.specs.declared.kind.SyntaxKind.TheVariants as kind
-use Rattle.typst_language.proofs.Places.{moved-sum}
-use Rattle.typst_language.proofs.Places.{ahead-left}
-use Rattle.typst_language.proofs.Within.{grew, nest, turns-enough, growths-enough, nestings-enough, within-run}
+use Rattle.typst_language.proofs.Places.{moved-sum, ahead-left}
+use Rattle.typst_language.proofs.Within.{grew, nest, turns-enough, growths-enough, nestings-enough, within-run, if-same}
 use Rattle.typst_language.proofs.Looks.{same_in-shift, same_in-first, same_in-second, same_in-only, same_in-sunk, token-same, column-same}
 
 -- ---- the token at hand
@@ -20,10 +19,6 @@ record Ahead_same (k : CharClasses) (m : SyntaxMode) (i j : ℕ) (z w : Place) :
   nodes : ahead_by k m j w ≡ ahead_by k m i z
   asks : asks_by k m j w ≡ asks_by k m i z
   text : Text_same (ahead_by k m i z) z w
-
-if-same : {A : Type 0} (b : Bool) (x y u : A) → (b ≡ true → x ≡ y) → (if b then x else u) ≡ (if b then y else u)
-if-same true x y u h = h refl
-if-same false x y u h = refl
 
 -- more trivia than characters are never there
 trivia-enough : (k : CharClasses) (m : SyntaxMode) (i j : ℕ) (z : Place) → length z.ahead ≤ i → length z.ahead ≤ j → Ahead_same k m i j z z
@@ -77,7 +72,7 @@ ahead-frame k m z w h =
 abbrev after_known : Trivia → Token → ℕ → Ahead
 after_known t tok n = record { trivia = t.nodes; gap = t.gap; newlines = t.newlines; token = tok; len = n }
 
--- the same where the trivia may be known
+-- what is ahead has a frame also where the trivia may be known
 ahead_of-frame : (k : CharClasses) (m : SyntaxMode) (known : Option Trivia) (z w : Place) → SameIn (ahead_asks_of k m known z) z w
     → Same_ahead (ahead_of k m known z) (ahead_of k m known w) (ahead_asks_of k m known z) (ahead_asks_of k m known w) z w
 ahead_of-frame k m None z w h = ahead-frame k m z w h

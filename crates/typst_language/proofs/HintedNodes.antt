@@ -3,6 +3,7 @@ use Rattle.typst_language.proofs.Cited.{◌≡◌, ℕ, zero, suc, ◌+◌, ◌-
 use Rattle.typst_lexer.specs.Diagnostic.{hint_with}
 use Rattle.typst_lexer.specs.Tree.{Tree, advised, all_advised}
 use Rattle.typst_language.proofs.Places.{less-append, less-twice, less-none, length-less}
+use Rattle.std.proofs.lemmas.List.{nil_from_length}
 
 length-last : (hs : List (List ℕ)) (ts : List Tree) → length (hinted_last hs ts) ≡ length ts
 length-last hs [] = refl
@@ -12,7 +13,7 @@ length-last hs (t ∷ u ∷ ts) = ap suc (length-last hs (u ∷ ts))
 pub length-hinted : (hs : List (List ℕ)) (ts : List Tree) → length (hinted hs ts) ≡ length ts
 length-hinted hs ts = grind (arith, length-last)
 
-hinted-none : (hs : List (List ℕ)) → hinted hs [] ≡ []
+pub hinted-none : (hs : List (List ℕ)) → hinted hs [] ≡ []
 hinted-none hs = grind arith
 
 last-append : (hs : List (List ℕ)) (ts : List Tree) (u : Tree) (us : List Tree) → hinted_last hs (ts ++ u ∷ us) ≡ ts ++ hinted_last hs (u ∷ us)
@@ -43,7 +44,7 @@ less-hinted n hs ts h = grind (arith, hinted-none, length-hinted, take-hinted)
 
 -- ---- hints on hints
 
-advised-kind : (hs : List (List ℕ)) (t : Tree) → (all_advised hs t).head.kind ≡ t.head.kind
+pub advised-kind : (hs : List (List ℕ)) (t : Tree) → (all_advised hs t).head.kind ≡ t.head.kind
 advised-kind [] t = refl
 advised-kind (h ∷ hs) t = advised-kind hs (advised (hint_with None h) t)
 
@@ -71,10 +72,6 @@ pub hinted-twice : (hs ks : List (List ℕ)) (ts : List Tree) → hinted ks (hin
 hinted-twice hs ks ts = grind (arith, append-nil, last-twice)
 
 -- ---- one outcome after the other
-
-none-long : (ts : List Tree) → length ts ≡ 0 → ts ≡ []
-none-long [] e = refl
-none-long (t ∷ ts) e = absurd (omega arith)
 
 abbrev three : {A : Type 0} → ℕ → ℕ → A → A → A → A
 three b n x y z = if nat_lt b n then x else (if nat_lt n b then y else z)
@@ -107,7 +104,7 @@ standing-joined o p ts =
           ∙ sym (append_assoc first (hinted p.hints rest) p.nodes)
           ∙ ap (λ x. x ++ p.nodes) (sym (hinted-append p.hints first rest some) ∙ ap (λ x. hinted p.hints (x ++ rest)) (sym (ap (λ k. less k first) z ∙ less-none first)) ∙ ap (hinted p.hints) (sym split)))
       | inr g ↦ (
-          let none : rest ≡ [] = none-long rest (omega (arith, len, g)) in
+          let none : rest ≡ [] = nil_from_length rest (omega (arith, len, g)) in
           elim (cases_lt n p.back) [
             | inl l ↦ (
                 let some : 0 < p.back - n = omega arith in

@@ -1,9 +1,7 @@
 -- What was looked at for tokens, in bytes.
-use Rattle.typst_language.proofs.Cited.{◌≡◌, ℕ, zero, suc, ◌≤◌, Bool, true, false, if◌then◌else◌, refl, arith, SyntaxMode, Place, moved, CharClasses, Hull, ahead_by, len_at, joined_hull, token_hull, tokens_by}
+use Rattle.typst_language.proofs.Cited.{ℕ, zero, suc, ◌≤◌, Bool, true, false, if◌then◌else◌, arith, SyntaxMode, Place, moved, CharClasses, Hull, ahead_by, len_at, joined_hull, token_hull, tokens_by}
 use Rattle.typst_language.proofs.Places.{moved-sum}
-
-pub same-hull : (r s l m : ℕ) → r ≡ s → l ≡ m → ◌≡◌ {A = Hull} (record { reach = r; least = l }) (record { reach = s; least = m })
-same-hull r s l m e f = rw (e, f) refl
+pub use Rattle.typst_tokens.proofs.Columns.{same-hull}
 
 -- one hull lies in another
 pub record In (u v : Hull) : Type 0 where

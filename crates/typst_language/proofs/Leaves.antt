@@ -11,19 +11,9 @@ use Rattle.typst_language.proofs.Within.{grew}
 use Rattle.typst_language.proofs.Backs.{backs-turns, tidy-nestings, backs-run}
 use Rattle.typst_lexer.proofs.TokenTexts.{text-token}
 use Rattle.typst_language.proofs.Places.{moved-sum, less-append, less-twice, less-none, moved-ahead}
+pub use Rattle.typst_lexer.proofs.Leaves.{texts, texts-append}
 
 -- ---- texts of nodes
-
--- the texts of several nodes, joined
-abbrev pub texts : List Tree → List ℕ
-texts ts = text_joined (forest ts)
-
-pub texts-append : (ts us : List Tree) → texts (ts ++ us) ≡ texts ts ++ texts us
-texts-append [] us = refl
-texts-append (t ∷ ts) us =
-    ap (λ x. t.head.text ++ (text_joined t.kids ++ x)) (texts-append ts us)
-    ∙ ap (λ x. t.head.text ++ x) (sym (append_assoc (text_joined t.kids) (texts ts) (texts us)))
-    ∙ sym (append_assoc t.head.text (text_joined t.kids ++ texts ts) (texts us))
 
 pub texts-one : (t : Tree) → texts (t ∷ []) ≡ text_of t
 texts-one t = ap (λ x. t.head.text ++ x) (append-nil (text_joined t.kids))
@@ -90,7 +80,7 @@ less-same : (k : ℕ) (ts us : List Tree) → Same ts us → texts (less k ts) �
 unfolding less
 less-same k ts us h = grind (arith, same-long, texts-same, same-take)
 
--- with hints
+-- hints leave the text of a node
 text-hinted : (hints : List (List ℕ)) (t : Tree) → text_of (hinted_error hints t) ≡ text_of t
 text-hinted hints t = on (λ (u : Tree). text_of u ≡ text_of t) (is_error t.head.kind) (all_advised hints t) t (text_all_advised hints t) refl
 
@@ -125,7 +115,7 @@ text-changed (is_not thing) t = text-wanted thing t
 text-changed (renamed k) t = text-kind k t
 text-changed unparened t = text-parens t
 
-first-is : (change : NodeChange) (t : Tree) (ts : List Tree) → first_changed change (t ∷ ts) ≡ changed change t ∷ ts
+pub first-is : (change : NodeChange) (t : Tree) (ts : List Tree) → first_changed change (t ∷ ts) ≡ changed change t ∷ ts
 first-is stays t ts = refl
 first-is (turns_wrong message) t ts = refl
 first-is (is_not thing) t ts = refl
@@ -146,7 +136,7 @@ texts-changed : (change : NodeChange) (ts : List Tree) → texts (first_changed 
 texts-changed change ts = texts-same (first_changed change ts) ts (same-changed change ts)
 
 -- with an empty error between them
-texts-lacking : (count : ℕ) (message : List ℕ) (ts : List Tree) → texts (take count ts ++ error_of message [] ∷ drop count ts) ≡ texts ts
+pub texts-lacking : (count : ℕ) (message : List ℕ) (ts : List Tree) → texts (take count ts ++ error_of message [] ∷ drop count ts) ≡ texts ts
 texts-lacking count message ts = texts-append (take count ts) (error_of message [] ∷ drop count ts) ∙ sym (texts-append (take count ts) (drop count ts)) ∙ ap texts (take-append-drop count ts)
 
 pub text-shaped : (shape : Shape) (ts : List Tree) → texts (shaped shape ts) ≡ texts ts
@@ -174,7 +164,7 @@ less-nil k = let z : 0 - k ≡ 0 = omega arith in ap (λ n. take n []) z
 pub blank-nil : (n : ℕ) → Blank n []
 blank-nil n k h = ap texts (less-nil k)
 
--- one empty error alone
+-- if one empty error is taken back, the text stays
 blank-error : (n : ℕ) (message : List ℕ) → Blank n (error_of message [] ∷ [])
 unfolding less
 blank-error n message g h = grind arith
@@ -290,8 +280,8 @@ after_node-known : (b : Bool) (text : List ℕ) (s : Point) → (after_node b te
 after_node-known true text s = refl
 after_node-known false text s = refl
 
-after_shape-known : (shape : Shape) (ts : List Tree) (s : Point) → (after_shape shape ts s).known ≡ s.known
-after_shape-known shape ts s = grind (arith, after_node-known)
+pub shape-known : (shape : Shape) (ts : List Tree) (s : Point) → (after_shape shape ts s).known ≡ s.known
+shape-known shape ts s = grind (arith, after_node-known)
 
 kept-reshaped : {A : Type 0} (z : Place) (shape : Shape) (n : ℕ) (o : Outcome A) → Holds z o → Holds z (reshaped shape n o)
 kept-reshaped z shape n o k =
@@ -300,7 +290,7 @@ kept-reshaped z shape n o k =
     record {
       text = texts-append (take m o.nodes) (shaped shape ts) ∙ ap (λ x. texts (take m o.nodes) ++ x) (text-shaped shape ts)
           ∙ sym (texts-append (take m o.nodes) ts) ∙ ap texts (take-append-drop m o.nodes) ∙ k.text;
-      known = subst (λ (x : Option Trivia). Stands (moved o.taken z) x) (sym (after_shape-known shape ts o.state)) k.known;
+      known = subst (λ (x : Option Trivia). Stands (moved o.taken z) x) (sym (shape-known shape ts o.state)) k.known;
       blank = blank-shaped shape (take m o.nodes) ts o.state (subst (λ ns. Blank o.state.empties ns) (sym (take-append-drop m o.nodes)) k.blank);
     }
 

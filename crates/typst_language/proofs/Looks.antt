@@ -5,19 +5,11 @@ use Rattle.typst_lines.specs.Newline.{is_newline}
 use Rattle.typst_lines.specs.Place.{Place, moved, scout, run, past}
 use Rattle.typst_tokens.specs.Reader.{Reader, eaten, Look, look, marked, Agree, spanned, from_before, skip_look}
 use Rattle.typst_tokens.specs.Reader.Reader.{answer, peek, glance, span, eat, see_run, skip, eat_run}
-use Rattle.typst_tokens.proofs.Frame.{frame}
+use Rattle.typst_tokens.proofs.Frame.{frame, take-shorter}
 use Rattle.typst_language.specs.Ask.Ask.{looked, marked as unit}
 use Rattle.typst_language.proofs.Places.{moved-sum, ahead-left}
 
 -- ---- lists
-
-pub take-fewer : {A : Type 0} (m n : ℕ) (xs ys : List A) → m ≤ n → take n xs ≡ take n ys → take m xs ≡ take m ys
-take-fewer zero n xs ys le e = refl
-take-fewer (suc m) zero xs ys le e = absurd (omega arith)
-take-fewer (suc m) (suc n) [] [] le e = refl
-take-fewer (suc m) (suc n) [] (y ∷ ys) le e = absurd (cc)
-take-fewer (suc m) (suc n) (x ∷ xs) [] le e = absurd (cc)
-take-fewer (suc m) (suc n) (x ∷ xs) (y ∷ ys) le e = let tails : take n xs ≡ take n ys = cc in cc (take-fewer m n xs ys (omega arith) tails)
 
 -- what is marked the same is the same
 pub take-unmarked : (n : ℕ) (xs ys : List ℕ) → take n (marked xs) ≡ take n (marked ys) → take n xs ≡ take n ys
@@ -123,7 +115,7 @@ pub record SameToken (r : Reader Memory Token) (z w : Place) : Type 0 where
   pub text : take (len_by r z) w.ahead ≡ take (len_by r z) z.ahead
 
 pub token-same : (r : Reader Memory Token) (z w : Place) → Agree (look r z) z w → SameToken r z w
-token-same r z w g = let s = frame r z w g in grind (arith, front-covers, lengths-same, marked-length, take-unmarked, take-fewer, len-covers)
+token-same r z w g = let s = frame r z w g in grind (arith, front-covers, lengths-same, marked-length, take-unmarked, take-shorter, len-covers)
 
 -- ---- columns
 

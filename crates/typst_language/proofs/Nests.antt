@@ -47,7 +47,7 @@ module _ {A : Type 0} (l : Level) (shape : A → Shape) (begin : Begin) (p : A �
       let r = runs-reshaped l.levels (before begin v.state) (joined o q) a v new back both (shape q.value) (rewrapped k (shape a) new) (subst (λ u. Rewrapped k (shape u) new (rewrapped k (shape a) new)) (sym both.value) (rewrapped-is k (shape a) new)) in
       record { runs = rw goes_on r }
 
-  -- the last turn
+  -- the last turn of a run
   ran-innermost : (b : Bool) → gap_of v.state.known ≤ length v.place.ahead → Ran l (p x) (b, y) v w → (b ≡ true → bytes_left v.place ≤ bytes_left w.place) → Ran l (nests shape begin p x) y v (rewrapped k (shape y) w)
   unfolding run nesting
   ran-innermost b known did stuck =
@@ -84,7 +84,7 @@ nests-next {l = l} {shape = shape} {p = p} {start = start} {x = x} {y = y} {from
       subst (λ (u : View). Does l (nests shape at_token p start) a old u) (sym (each-last froms from (shape a) new)) (n.rest a (rewrapped from (shape a) new) whole));
 }
 
--- the last turn
+-- the last turn of the code
 pub nests-last : {A : Type 0} {l : Level} {shape : A → Shape} {p : A → Parser (Bool × A)} {b : Bool} {start x y : A} {froms : List ℕ} {from : ℕ} {old v w : View}
     → Sound l → Nests l shape p start old froms x v → v.state.empties ≤ length v.nodes → from ≡ length v.nodes + length v.hand.trivia → Does l (p x) (b, y) v w → (b ≡ true → bytes_left v.place ≤ bytes_left w.place)
     → Does l (nest shape p start) y old (rewrapped_each (froms ++ from ∷ []) (shape y) w)

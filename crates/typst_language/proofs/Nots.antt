@@ -1,13 +1,6 @@
 -- Tests that the code asks the other way round.
-use Rattle.std.proofs.Common.{◌≡◌, Bool, true, false, not, refl, sym, ◌∙◌}
-
-not-true : (x : Bool) → not x ≡ true → x ≡ false
-not-true true h = absurd (cc)
-not-true false h = refl
-
-not-false : (x : Bool) → not x ≡ false → x ≡ true
-not-false true h = refl
-not-false false h = absurd (cc)
+use Rattle.std.proofs.Common.{◌≡◌, Bool, true, false, not, sym, ◌∙◌}
+use Rattle.std.proofs.lemmas.Bool.{not-true, not-false}
 
 pub is-not : {b x : Bool} → b ≡ not x → b ≡ true → x ≡ false
 is-not {x = x} e t = not-true x (sym e ∙ t)

@@ -4,6 +4,7 @@ use Rattle.typst_kinds.specs.declared.kind.SyntaxKind.TheVariants as kind
 use Rattle.typst_kinds.specs.Head.{Head}
 use Rattle.typst_lexer.specs.Tree.{Tree, Forest, forest, with_kind, at_tree, at_child}
 use Rattle.typst_lexer.specs.Tree.Forest.{more}
+use Rattle.typst_lines.proofs.SplitLaw.{and-none}
 
 last-tree : (k : SyntaxKind) (t : Tree) (ts : List Tree) → at_tree (with_kind k) (length ts) (forest (t ∷ ts)) ≡ forest (renamed_last k (t ∷ ts))
 last-tree k t [] = refl
@@ -41,9 +42,5 @@ unparened-is t ns last f e k p l = grind (arith, unparened-kids)
 pub other-stays : (t : Tree) → is_delimited t.head.kind ≡ false → t ≡ without_parens t
 other-stays t e = rw e refl
 
-no-and : (b : Bool) → (b && false) ≡ false
-no-and true = refl
-no-and false = refl
-
 pub parens-stay : (t : Tree) (ns : List Tree) → forest ns ≡ t.kids → in_parens ns ≡ false → t ≡ without_parens t
-parens-stay t ns k p = grind (arith, trees_forest, no-and)
+parens-stay t ns k p = grind (arith, trees_forest, and-none)

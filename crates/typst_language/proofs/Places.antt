@@ -1,7 +1,8 @@
 -- Places, and the ends of lists.
 use Rattle.typst_language.proofs.Cited.{◌≡◌, ℕ, zero, suc, ◌+◌, ◌-◌, ◌≤◌, min, List, [], ◌∷◌, ◌++◌, length, take, drop, length-append, length-take, length-drop, append-nil, refl, ap, sym, ◌∙◌, arith, take_min, Place, moved, moved_from, less, take-length, drop-nil}
+pub use Rattle.typst_lexer.proofs.Moves.{moved-ahead}
 
-at-end : (n : ℕ) (b : List ℕ) → moved_from n b [] ≡ record { before = b; ahead = [] }
+pub at-end : (n : ℕ) (b : List ℕ) → moved_from n b [] ≡ record { before = b; ahead = [] }
 at-end n b = grind arith
 
 sum-from : (m n : ℕ) (b a : List ℕ) → moved_from (m + n) b a ≡ moved n (moved_from m b a)
@@ -20,14 +21,6 @@ min-from (suc n) b (c ∷ a) = let e : min (suc n) (suc (length a)) ≡ suc (min
 -- after the end is the end
 pub moved-min : (n : ℕ) (z : Place) → moved (min n (length z.ahead)) z ≡ moved n z
 moved-min n z = min-from n z.before z.ahead
-
-ahead-from : (n : ℕ) (b a : List ℕ) → (moved_from n b a).ahead ≡ drop n a
-ahead-from zero b a = refl
-ahead-from (suc n) b [] = refl
-ahead-from (suc n) b (c ∷ a) = ahead-from n (c ∷ b) a
-
-pub moved-ahead : (n : ℕ) (z : Place) → (moved n z).ahead ≡ drop n z.ahead
-moved-ahead n z = ahead-from n z.before z.ahead
 
 pub ahead-left : (n : ℕ) (z : Place) → length (moved n z).ahead ≡ length z.ahead - n
 ahead-left n z = ap length (moved-ahead n z) ∙ length-drop n z.ahead

@@ -23,7 +23,7 @@ node_so l way making h z = node_by l.classes making (token_by (reader_so l way) 
 
 -- ---- its kind
 
--- it was looked at
+-- the view where a token that is read so was looked at
 abbrev pub looked_so : Level → Way → View → View
 looked_so l way v = record v { log = with_hull (hull_so l way v.hand v.place) v.log }
 

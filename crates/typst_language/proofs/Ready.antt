@@ -5,6 +5,7 @@ use Rattle.typst_language.specs.declared.parser.Parser.TheInside.{Inside}
 use Rattle.typst_language.proofs.Logs.{logged-none, logged-some}
 use Rattle.typst_language.proofs.Runs.{column_seen, fits-looked, asked-log}
 use Rattle.typst_language.proofs.Steps.{does-note, does-column, does-takes}
+use Rattle.typst_language.proofs.Backs.{count-le}
 
 -- what the state says of a node that was added
 pub told-node : (i : Bool) (text : List ℕ) (s : Point) → record s { empties = if i then count_empty text else 0; is_after_error = i } ≡ after_node i text s
@@ -75,9 +76,6 @@ was-read i f = grind arith
 pub stands-passed : (a : ReadAhead) → a.line.text.now ≡ a.after.text.now → Stands (record a { is_read = false; before = a.after; start = a.after })
 stands-passed a same = grind arith
 
-count-most : (text : List ℕ) → count_empty text ≤ 1
-count-most text = grind arith
-
 -- after a node that was given no more empty errors stand than nodes
 pub few-given : (is : Bool) (text : List ℕ) (empties : ℕ) (old new : List Tree) (node : Tree) → empties ≡ (if is then count_empty text else 0) → new ≡ old ++ node ∷ [] → empties ≤ length new
-few-given is text empties old new node e f = grind (arith, count-most, length-append)
+few-given is text empties old new node e f = grind (arith, count-le, length-append)

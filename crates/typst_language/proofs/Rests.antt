@@ -44,10 +44,6 @@ like-flushed s ts = grind arith
 
 -- ---- leaving a reading
 
-on_if : {A : Type 0} (P : A → Type 0) (b : Bool) (x y : A) → (b ≡ true → P x) → (b ≡ false → P y) → P (if b then x else y)
-on_if P true x y p q = p refl
-on_if P false x y p q = q refl
-
 -- after a part that was read so
 rests-left : (f r h : Reading) (s : Point) → Rests f h s → Rests r h (left r s)
 rests-left f r h s a = grind arith
@@ -62,7 +58,7 @@ rests-turns m h (suc n) x z s =
     (rests-then s.reading s.held o.state (turns m n o.value.1 (moved o.taken z) o.state).state (h x z s) (rests-turns m h n o.value.1 (moved o.taken z) o.state))
     (h x z s)
 
--- after what grew
+-- the rest holds after what grew
 rests-grown : {A : Type 0} (r h : Reading) (n : ℕ) (shape : Option Shape) (o : Outcome A) → Rests r h o.state → Rests r h (grown n shape o).state
 rests-grown r h n shape o a = grind (arith, rests-like, like-shape)
 

@@ -1,5 +1,5 @@
 -- How runs of the code compose.
-use Rattle.typst_language.proofs.Cited.{Option, ◌≡◌, ℕ, suc, ◌+◌, ◌-◌, ◌<◌, ◌≤◌, ◌==◌, Bool, true, false, ◌&&◌, nat_lt, if◌then◌else◌, List, [], ◌∷◌, ◌++◌, length, map, take, drop, append_assoc, refl, ap, sym, ◌∙◌, subst, arith, rules, lt-ltb, is_error, Place, moved, Tree, text_of, error_of, CharClasses, hull_of, Hull, Mark, Newlines, Reading, Call, Answer, Point, Trivia, gap_of, state_of, Ask, Hand, as_at_hand, hand_at, column_at, column_look, Log, logged, with_hull, with_note, Making, Shape, NodeChange, after_node, after_change, after_shape, changed, hinted, seen, keeps, holds, lacks, warns, fails, Sound, Parser, Begin, hand, column, erred, takes, flushes, complains, marks, is_deepest, gives, does, next, pick, repeat, wraps, scoped, calls, Outcome, Meaning, Level, asked, before, bound, plain, less, followed, turns, repeated, inside, reshaped, entered, left, renewed, flushed_state, taken_node, hand_asks_of, run, bytes_left, token_hull, column_hull, View, Runs, Ran, at, Fits, Bare, Looked, Flushed, Rewrapped, Knows, end_of}
+use Rattle.typst_language.proofs.Cited.{Option, ◌≡◌, ℕ, suc, ◌+◌, ◌-◌, ◌<◌, ◌≤◌, ◌==◌, Bool, true, false, ◌&&◌, nat_lt, if◌then◌else◌, List, [], ◌∷◌, ◌++◌, length, map, take, drop, append_assoc, refl, ap, sym, ◌∙◌, subst, arith, rules, lt-ltb, is_error, Place, moved, Tree, text_of, error_of, CharClasses, hull_of, Hull, Mark, Newlines, Reading, Call, Answer, Point, Trivia, gap_of, state_of, Ask, Hand, as_at_hand, hand_at, column_at, column_look, Log, logged, with_hull, with_note, Making, Shape, after_node, after_shape, hinted, seen, Sound, Parser, Begin, hand, column, erred, takes, flushes, complains, marks, is_deepest, gives, does, next, pick, repeat, wraps, scoped, calls, Outcome, Meaning, Level, asked, before, bound, plain, less, followed, turns, repeated, inside, reshaped, entered, left, renewed, flushed_state, taken_node, hand_asks_of, run, bytes_left, token_hull, column_hull, View, Runs, Ran, at, Fits, Bare, Looked, Flushed, Rewrapped, Knows, end_of}
 use Rattle.typst_language.proofs.Places.{moved-sum, take-both, drop-both, take-all, drop-all, less-none, length-less, no-end}
 use Rattle.typst_language.proofs.HintedNodes.{standing-joined, length-hinted}
 use Rattle.typst_language.proofs.Within.{turns-enough, within-run}
@@ -8,6 +8,7 @@ use Rattle.typst_language.proofs.Bytes.{some-bytes, none-bytes}
 use Rattle.typst_language.proofs.Logs.{logged-append, logged-shift, logged-sunk, logged-some, hand-among, is-among}
 use Rattle.typst_language.proofs.Trivia.{hand-known, gap-there}
 use Rattle.typst_language.proofs.Knowing.{end-moved, knows-at}
+pub use Rattle.typst_language.proofs.Leaves.{shape-known}
 
 pub runs-plain : {A : Type 0} (n : ℕ) (a b : A) (v : View) → a ≡ b → Runs n (plain a v.state) b v v
 runs-plain n a b v e = record { value = e; place = refl; state = refl; nodes = no-end v.nodes; log = refl }
@@ -129,7 +130,7 @@ pub ran-flushes : {l : Level} {v w : View} → Flushed v w → Fits l v → Ran 
 unfolding run
 ran-flushes {l = l} {v = v} {w = w} h c = grind (arith, asked-again, less-none)
 
-flushed-held : (ts : List Tree) (h : Hand) (s : Point) → h.trivia ≡ ts → (flushed_state h s).held ≡ s.held
+pub flushed-held : (ts : List Tree) (h : Hand) (s : Point) → h.trivia ≡ ts → (flushed_state h s).held ≡ s.held
 flushed-held ts h s e = grind arith
 
 pub flushed-fits : {l : Level} {v w : View} → Flushed v w → Fits l v → Fits l w
@@ -233,25 +234,8 @@ ran-last {l = d} {p = p} {b = b} {x = x} {y = y} {v = v} {w = w} sound few did s
 
 -- ---- what a shape leaves of the token at hand
 
-change-known : (change : NodeChange) (ts : List Tree) (s : Point) → (after_change change ts s).known ≡ s.known
-change-known change [] s = refl
-change-known change (t ∷ []) s = on-error (is_error t.head.kind) (is_error (changed change t).head.kind) (text_of t) s
-  where
-    on-error : (a b : Bool) (text : List ℕ) (s : Point) → (if a then s else after_node b text s).known ≡ s.known
-    on-error true b text s = refl
-    on-error false true text s = refl
-    on-error false false text s = refl
-change-known change (t ∷ u ∷ ts) s = refl
-
 pub shape-held : (shape : Shape) (ts : List Tree) (s : Point) → (after_shape shape ts s).held ≡ s.held
 shape-held shape ts s = grind arith
-
-pub shape-known : (shape : Shape) (ts : List Tree) (s : Point) → (after_shape shape ts s).known ≡ s.known
-shape-known (keeps change) ts s = change-known change ts s
-shape-known (holds change kind) ts s = refl
-shape-known (lacks count message kind) ts s = refl
-shape-known (warns kind message hint) ts s = refl
-shape-known (fails message) ts s = refl
 
 pub rewrapped-fits : (l : Level) {from : ℕ} {shape : Shape} {mid new : View} → Rewrapped from shape mid new → Fits l mid → Fits l new
 rewrapped-fits l {from = from} {shape = shape} {mid = mid} {new = new} w c = grind (arith, shape-held, shape-known, hand-at, own-at, here-at, knows-at)

@@ -1,5 +1,5 @@
 -- How steps of the code compose, most of which begin and end with the right token at hand.
-use Rattle.typst_language.proofs.Cited.{Option, None, ◌≡◌, ℕ, ◌+◌, ◌<◌, ◌≤◌, ◌==◌, Bool, true, false, List, [], ◌∷◌, ◌++◌, length, map, drop, ap, sym, ◌∙◌, subst, arith, SyntaxKind, moved, Tree, error_of, Mark, Reading, Call, Answer, Point, Trivia, gap_of, pending, is_nil, state_of, with_note, as_at_hand, column_at, Making, Shape, becomes, seen, Sound, Parser, Begin, column, erred, takes, complains, marks, is_deepest, gives, does, next, pick, repeat, wraps, scoped, calls, peek, eat_making, flush_trivia, within, node, node_with_trivia, note, Level, before, entered, left, bytes_left, View, Ran, Goes, Does, Makes, Fits, Bare, Loose, Looked, Left, Flushed, Rewrapped, unasked, noted_here, Knows, end_of}
+use Rattle.typst_language.proofs.Cited.{Option, None, ◌≡◌, ℕ, ◌+◌, ◌<◌, ◌≤◌, ◌==◌, Bool, true, false, List, [], ◌∷◌, ◌++◌, length, map, drop, ap, sym, ◌∙◌, subst, arith, ne_eqb, SyntaxKind, moved, Tree, error_of, Mark, Reading, Call, Answer, Point, Trivia, gap_of, pending, is_nil, state_of, with_note, as_at_hand, column_at, Making, Shape, becomes, seen, Sound, Parser, Begin, column, erred, takes, complains, marks, is_deepest, gives, does, next, pick, repeat, wraps, scoped, calls, peek, eat_making, flush_trivia, within, node, node_with_trivia, note, Level, before, entered, left, bytes_left, View, Ran, Goes, Does, Makes, Frame, Fills, Fits, Bare, Loose, Looked, Left, Flushed, Rewrapped, unasked, noted_here, Knows, end_of}
 use Rattle.typst_language.proofs.Knowing.{knows-at}
 use Rattle.typst_language.proofs.Runs.{ran-next, ran-gives, ran-calls, ran-pick, ran-other, ran-hand, ran-column, ran-erred, ran-deepest, ran-marks, Eaten, ran-takes, eaten-bare, ran-flushes, flushed-fits, ran-complains, ran-scoped, ran-wraps, rewrapped-fits, ran-turn, ran-last, looked-fits, ran-look, column_seen, fits-more, noted}
 
@@ -25,14 +25,14 @@ nil-seen ts = grind arith
 pub does-peek : {l : Level} (v : View) → Does l peek (as_at_hand v.hand) v v
 does-peek v = record { ran = λ c. ran-hand v c; ready = λ c. c }
 
--- the first question
+-- where nothing is known of a token, nothing has to be forgotten
 bare-same : {l : Level} (v : View) → Bare l v → unasked v ≡ v
 bare-same v b = ap (λ (x : Option Trivia). record v { state = record v.state { known = x } }) (sym b.known)
 
 pub does-look : {l : Level} {v w : View} → Looked l (unasked v) w → Goes l (Bare l) (Fits l) peek (as_at_hand w.hand) v w
 does-look {l = l} {v = v} {w = w} h = record { ran = λ b. ran-look (subst (λ (x : View). Looked l x w) (bare-same v b) h); ready = λ b. looked-fits (omega arith) b.knows h }
 
--- what may end anywhere
+-- after any step what is remembered is so
 pub does-loose : {A : Type 0} {l : Level} {P Q : View → Type 0} {p : Parser A} {a : A} {old new : View} → (Q new → Knows l.guess (end_of new.place) new.memo) → Goes l P Q p a old new → Goes l P (Loose l) p a old new
 does-loose knows d = record { ran = d.ran; ready = λ c. record { knows = knows (d.ready c) } }
 
@@ -54,6 +54,13 @@ does-erred v = record { ran = λ c. ran-erred v; ready = λ c. c }
 
 pub does-deepest : {l : Level} {P : View → Type 0} (v : View) → Goes l P P (does is_deepest) (l.levels == 0) v v
 does-deepest v = record { ran = λ c. ran-deepest v; ready = λ c. c }
+
+-- where no level is left, and where one is
+pub does-too-deep : {A : Type 0} {l : Level} {f : Frame} {P Q : View → Type 0} {n : ℕ} {p q : Parser A} {a : A} {old new : View} → Fills l f → n ≡ f.levels → n ≡ 0 → Goes l P Q p a old new → Goes l P Q (next (does is_deepest) (λ b. pick b p q)) a old new
+does-too-deep h is none did = does-next (does-deepest _) (does-pick (ap (λ k. k == 0) (h.levels ∙ sym is ∙ none)) did)
+
+pub does-deeper : {A : Type 0} {l : Level} {f : Frame} {P Q : View → Type 0} {n : ℕ} {p q : Parser A} {a : A} {old new : View} → Fills l f → n ≡ f.levels → (n ≡ 0 → ⊥) → Goes l P Q q a old new → Goes l P Q (next (does is_deepest) (λ b. pick b p q)) a old new
+does-deeper h is some did = does-next (does-deepest _) (does-other (ap (λ k. k == 0) (h.levels ∙ sym is) ∙ ne_eqb _ 0 some) did)
 
 -- no more trivia are known than there are characters
 pub known-few : {l : Level} {v : View} → Fits l v → gap_of v.state.known ≤ length v.place.ahead
@@ -100,7 +107,7 @@ does-within f {old = old} {mid = mid} h e = record {
   ready = λ c. (let m = h.ready (fits-entered f c) in looked-fits (left-few old.state.reading mid.state (length mid.place.ahead) (known-few m)) m.knows (e m));
 }
 
--- the same, where no token is asked for after it
+-- a part is read in another way, and no token is asked for after it
 pub does-scoped : {A : Type 0} {l : Level} {Q : View → Type 0} (f : Reading → Reading) {p : Parser A} {a : A} {outer : Reading} {old inner mid new : View}
     → (Q mid → Knows l.guess (end_of mid.place) mid.memo) → inner ≡ record old { state = entered (f old.state.reading) old.state } → outer ≡ old.state.reading
     → Goes l (Fits l) Q p a inner mid → new ≡ record mid { state = left outer mid.state } → Goes l (Fits l) (Loose l) (scoped f p) a old new

@@ -1,5 +1,5 @@
 -- Reading trivia one after the other.
-use Rattle.typst_language.proofs.Cited.{encode, Option, Some, None, ◌≡◌, ℕ, zero, suc, ◌+◌, ◌-◌, ◌<◌, ◌≤◌, Bool, true, false, ◌&&◌, ◌||◌, nat_lt, List, [], ◌∷◌, ◌++◌, length, take, slice_get, reverse, append_assoc, append-nil, refl, ap, sym, ◌∙◌, subst, arith, ltb-true, chars-nil, chars, SyntaxMode, SyntaxKind, Place, moved, place_at, scout, Tree, leaf_of, CharClasses, token_node, Hull, Token, Newlines, Reading, is_trivia, Trivia, gap_of, no_newlines, Hand, Ahead, text_ahead, token_at, len_at, at_trivia, both_newlines, newlines_of, direct, after_trivia, ahead_by, ahead, column_at, judged, hand_at, known_by, joined_hull, token_hull, tokens_by, tokens_at, column_hull, whole_at, exec, eaten, token, place, Scanner, IsAhead, distance, bytes_left, exec-moved}
+use Rattle.typst_language.proofs.Cited.{encode, Option, Some, None, ◌≡◌, ℕ, zero, suc, ◌+◌, ◌-◌, ◌<◌, ◌≤◌, Bool, true, false, ◌&&◌, nat_lt, List, [], ◌∷◌, ◌++◌, length, take, slice_get, reverse, append_assoc, append-nil, refl, ap, sym, ◌∙◌, subst, arith, ltb-true, chars-nil, chars, SyntaxMode, SyntaxKind, Place, moved, place_at, scout, Tree, leaf_of, CharClasses, token_node, Hull, Token, Newlines, Reading, is_trivia, Trivia, gap_of, no_newlines, Hand, Ahead, text_ahead, token_at, len_at, at_trivia, both_newlines, newlines_of, direct, after_trivia, ahead_by, ahead, column_at, judged, hand_at, known_by, joined_hull, token_hull, tokens_by, tokens_at, column_hull, whole_at, exec, eaten, token, place, Scanner, IsAhead, distance, bytes_left, exec-moved}
 use Rattle.std.proofs.Math.Bool.{or_assoc}
 use Rattle.typst_kinds.specs.declared.kind.SyntaxKind.TheVariants as kind
 use Rattle.typst_tokens.specs.Token.{plain}
@@ -8,18 +8,16 @@ use Rattle.typst_language.proofs.Bytes.{none-bytes}
 use Rattle.typst_language.proofs.Hulls.{In, second-in, first-in, same-hull}
 use Rattle.typst_language.proofs.Places.{moved-sum, moved-min, moved-before, ahead-left}
 use Rattle.typst_language.proofs.Within.{if-same, and-second, on_both, on_if}
+use Rattle.typst_tree.proofs.PathMarks.{or_false}
 
 and-none : (b : Bool) (n : ℕ) → n ≡ 0 → (b && nat_lt 0 n) ≡ false
 and-none b n e = grind arith
-
-or-none : (b : Bool) → (b || false) ≡ b
-or-none b = grind arith
 
 same-newlines : (a b c d : Bool) → a ≡ c → b ≡ d → ◌≡◌ {A = Newlines} (record { any = a; parbreak = b }) (record { any = c; parbreak = d })
 same-newlines a b c d e f = rw (e, f) refl
 
 pub both-none : (a : Newlines) → both_newlines a no_newlines ≡ a
-both-none a = same-newlines _ _ _ _ (or-none a.any) (or-none a.parbreak)
+both-none a = same-newlines _ _ _ _ (or_false a.any) (or_false a.parbreak)
 
 both-assoc : (a b c : Newlines) → both_newlines a (both_newlines b c) ≡ both_newlines (both_newlines a b) c
 both-assoc a b c = same-newlines _ _ _ _ (sym (or_assoc a.any b.any c.any)) (sym (or_assoc a.parbreak b.parbreak c.parbreak))
@@ -198,7 +196,7 @@ lone-is k m z w t e s =
     let one : n ≡ 1 = omega (arith, ap (λ (p : Place). length p.ahead) (sym there ∙ s.2), ahead-left n z, ahead-left 1 z, len-most k m z, a.1) in
     grind arith
 
--- its node is a leaf
+-- the node of one space is a leaf
 pub space-node : (k : CharClasses) → token_node k (plain kind.Space) (32 ∷ []) ≡ leaf_of kind.Space (32 ∷ [])
 unfolding encode
 space-node k = refl

@@ -2,7 +2,7 @@
 use Rattle.typst_language.proofs.Cited.{◌≡◌, sym, subst, arith, Reading, Level, entered, Parser, within, View, Goes, Does, Left}
 use Rattle.typst_language.proofs.Steps.{does-within}
 
--- the same answer in other words
+-- what is equal to the answer is the answer
 pub does-value : {A : Type 0} {l : Level} {P Q : View → Type 0} {p : Parser A} {a b : A} {old new : View} → b ≡ a → Goes l P Q p a old new → Goes l P Q p b old new
 does-value {A = A} {l = l} {P = P} {Q = Q} {p = p} {old = old} {new = new} e d = subst (λ (x : A). Goes l P Q p x old new) (sym e) d
 

@@ -1,12 +1,8 @@
 -- No more is taken than there is, and no more turns are made than there are characters.
 use Rattle.typst_language.proofs.Cited.{Some, ◌≡◌, ℕ, zero, suc, ◌+◌, ◌<◌, ◌≤◌, Bool, true, false, ◌&&◌, if◌then◌else◌, nat_lt, length, refl, ap, arith, List, None, Option, max, ltb-true, SyntaxMode, Place, moved, CharClasses, Block, Call, Trivia, Point, gap_of, Shape, after_node, after_shape, Reading, Reader, Token, Memory, Ahead, len_at, len_by, at_trivia, ahead_by, ahead, hand_at, Op, Begin, Parser, hand, so, further, column, erred, takes, takes_so, flushes, complains, advises, marks, is_deepest, gives, does, next, pick, repeat, wraps, grows, nests, scoped, either, calls, block, Outcome, Meaning, Level, plain, joined, answered, followed, turns, as_last, bound, repeated, before, inside, reshaped, grown, is_more, growths, growing, nestings, nesting, given_up, bounded, entered, left, reader_so, done, run, Within}
-pub use Rattle.typst_lines.proofs.Bools.{and-second}
+pub use Rattle.typst_lines.proofs.Bools.{and-second, on as on_both}
 use Rattle.typst_lexer.specs.Tree.{Tree}
 use Rattle.typst_language.proofs.Places.{ahead-left, moved-sum}
-
-pub on_both : {A : Type 0} (P : A → Type 0) (b : Bool) (x y : A) → P x → P y → P (if b then x else y)
-on_both P true x y p q = p
-on_both P false x y p q = q
 
 pub on_if : {A : Type 0} (P : A → Type 0) (b : Bool) (x y : A) → (b ≡ true → P x) → (b ≡ false → P y) → P (if b then x else y)
 on_if P true x y p q = p refl

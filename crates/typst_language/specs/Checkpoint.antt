@@ -25,7 +25,7 @@ pub record Saved : Type 0 where
   pub own : Hull
   pub here : Hull
 
--- there is a value
+-- whether there is a value
 abbrev pub is_some : {A : Type 0} → Option A → Bool
 is_some None = false
 is_some (Some a) = true

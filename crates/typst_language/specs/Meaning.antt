@@ -55,7 +55,7 @@ Meaning A = Place → Point → Outcome A
 abbrev pub plain : {A : Type 0} → A → Point → Outcome A
 plain a s = record { value = a; taken = 0; state = s; back = 0; hints = []; nodes = []; asks = []; met = false }
 
--- the same outcome with another answer
+-- an outcome with another answer
 abbrev pub answered : {A B : Type 0} → B → Outcome A → Outcome B
 answered b o = record { value = b; taken = o.taken; state = o.state; back = o.back; hints = o.hints; nodes = o.nodes; asks = o.asks; met = o.met }
 
@@ -137,7 +137,7 @@ abbrev pub grown : {A : Type 0} → ℕ → Option Shape → Outcome A → Outco
 grown n None o = o
 grown n (Some shape) o = reshaped shape n o
 
--- there is a value
+-- whether there is a value
 abbrev pub is_more : {A : Type 0} → Option A → Bool
 is_more None = false
 is_more (Some a) = true

@@ -62,7 +62,7 @@ pub data NodeChange : Type 0 where
 
 -- what several nodes become
 pub data Shape : Type 0 where
-  -- the same nodes, the first of them changed
+  -- the nodes themselves, the first of them changed
   keeps : NodeChange → Shape
   -- an inner node over the nodes, the first of them changed
   holds : NodeChange → SyntaxKind → Shape

@@ -99,10 +99,15 @@ pub record Makes (l : Level) (call : Call) (a : Answer call) (old new : View) : 
   pub ran : Fits l old → Runs (l.levels - 1) (l.deeper call old.place old.state) a old new
   pub ready : Fits l old → Fits l new
 
+-- `Goes`, unless memory is refused, where the code answers in its own terms, and `meant` says what
+-- its answer means
+abbrev pub GoesBy : {A B : Type 0} → Level → (View → Type 0) → (View → Type 0) → (B → A) → Parser A → View → Result B AllocError → View → Type 0
+GoesBy l P Q meant p old (Ok b) new = Goes l P Q p (meant b) old new
+GoesBy l P Q meant p old (Err e) new = Unit {0}
+
 -- `Goes`, unless memory is refused
 abbrev pub GoesIf : {A : Type 0} → Level → (View → Type 0) → (View → Type 0) → Parser A → View → Result A AllocError → View → Type 0
-GoesIf l P Q p old (Ok a) new = Goes l P Q p a old new
-GoesIf l P Q p old (Err e) new = Unit {0}
+GoesIf l P Q p old r new = GoesBy l P Q (λ a. a) p old r new
 
 -- `Does`, unless memory is refused
 abbrev pub Reads : {A : Type 0} → Level → Parser A → View → Result A AllocError → View → Type 0
@@ -242,19 +247,18 @@ pub record Fills (l : Level) (f : Frame) : Type 0 where
   pub levels : l.levels ≡ f.levels
   pub reads : (old new : View) (call : Call) (r : Result (Answer call) AllocError) → f.gives call old r new → Calls l call old r new
 
--- what the clause of a production says: its code does what the parser does, at each level that its
--- calls fill
+-- what the clause of a production says: its code does what the parser does (`GoesBy`), at each level
+-- that its calls fill; `supposing` says what else is supposed of the level
+abbrev pub MeansWhere : {A B : Type 0} → (Level → Type 0 → Type 0) → (Level → View → Type 0) → (Level → View → Type 0) → (B → A) → Frame → Parser A → View → Result B AllocError → View → Type 0
+MeansWhere supposing P Q meant f q old r new = (l : Level) → Fills l f → supposing l (GoesBy l (P l) (Q l) meant q old r new)
+
+-- the clause of a production that begins and ends with the current token asked for
 abbrev pub Means : {A : Type 0} → Frame → Parser A → View → Result A AllocError → View → Type 0
-Means f q old r new = (l : Level) → Fills l f → Reads l q old r new
+Means f q old r new = MeansWhere (λ l says. says) Fits Fits (λ a. a) f q old r new
 
--- `Reads`, where the code answers in its own terms, and `told` says what its answer means
-abbrev pub ReadsBy : {A B : Type 0} → Level → (B → A) → Parser A → View → Result B AllocError → View → Type 0
-ReadsBy l told p old (Ok b) new = Does l p (told b) old new
-ReadsBy l told p old (Err e) new = Unit {0}
-
--- `Means`, where the code answers in its own terms, and `told` says what its answer means
+-- `Means`, where the code answers in its own terms, and `meant` says what its answer means
 abbrev pub MeansBy : {A B : Type 0} → Frame → (B → A) → Parser A → View → Result B AllocError → View → Type 0
-MeansBy f told q old r new = (l : Level) → Fills l f → ReadsBy l told q old r new
+MeansBy f meant q old r new = MeansWhere (λ l says. says) Fits Fits meant f q old r new
 
 -- the answer of a turn that grows, where the code says the kind of the node that all goes into
 abbrev pub growth : {A : Type 0} → Option SyntaxKind × A → Option Shape × A
@@ -266,11 +270,11 @@ bare_growth kind = (option_map becomes kind, tt)
 
 -- `Means`, where no token was asked for before it
 abbrev pub MeansFirst : {A : Type 0} → Frame → Parser A → View → Result A AllocError → View → Type 0
-MeansFirst f q old r new = (l : Level) → Fills l f → GoesIf l (Bare l) (Fits l) q old r new
+MeansFirst f q old r new = MeansWhere (λ l says. says) Bare Fits (λ a. a) f q old r new
 
 -- `Means`, where no token is asked for after it
 abbrev pub MeansLast : {A : Type 0} → Frame → Parser A → View → Result A AllocError → View → Type 0
-MeansLast f q old r new = (l : Level) → Fills l f → GoesIf l (Fits l) (Loose l) q old r new
+MeansLast f q old r new = MeansWhere (λ l says. says) Fits Loose (λ a. a) f q old r new
 
 -- what a function does that makes calls: by the parser, how many levels are left, and two more
 -- arguments

@@ -1,23 +1,11 @@
 -- Escapes, by the places that the code goes to.
-use Rattle.typst_markup.proofs.Cited.{◌≡◌, ◌<◌, ℕ, zero, suc, ◌+◌, ◌==◌, Bool, true, false, if◌then◌else◌, List, [], ◌∷◌, ◌++◌, length, drop, slice_get, Some, refl, ap, ◌∙◌, arith, length-drop, Place, moved, moved_from, scout, passes, past, in_braces, code_escape, escape, escaped, unescaped, is_ascii_hexdigit, prefix_len}
-use Rattle.typst_lines.proofs.PlaceLemmas.{head-splits, moved-step}
-
-from-ahead : (n : ℕ) (xs ys : List ℕ) → (moved_from n xs ys).ahead ≡ drop n ys
-from-ahead zero xs ys = refl
-from-ahead (suc n) xs [] = refl
-from-ahead (suc n) xs (c ∷ ys) = from-ahead n (c ∷ xs) ys
-
-ahead-moved : (n : ℕ) (p : Place) → (moved n p).ahead ≡ drop n p.ahead
-ahead-moved n p = from-ahead n p.before p.ahead
-
-from-next : (n : ℕ) (xs ys : List ℕ) → scout 0 (moved_from n xs ys) ≡ slice_get ys n
-from-next zero xs ys = refl
-from-next (suc n) xs [] = refl
-from-next (suc n) xs (c ∷ ys) = from-next n (c ∷ xs) ys
+use Rattle.typst_markup.proofs.Cited.{◌≡◌, ◌<◌, ℕ, zero, suc, ◌+◌, ◌==◌, Bool, true, false, if◌then◌else◌, List, [], ◌∷◌, ◌++◌, length, drop, slice_get, Some, refl, ap, ◌∙◌, arith, length-drop, Place, moved, scout, passes, past, in_braces, code_escape, escape, escaped, unescaped, is_ascii_hexdigit, prefix_len}
+use Rattle.typst_lines.proofs.PlaceLemmas.{head-splits, moved-step, scout-moved}
+use Rattle.typst_language.proofs.Places.{moved-ahead}
 
 -- after digits a brace may come
 ending : (q w : Place) (b : Bool) → b ≡ passes (λ c. c == 125) (scout 0 (past is_ascii_hexdigit q)) → w ≡ (if b then moved 1 (past is_ascii_hexdigit q) else past is_ascii_hexdigit q) → w ≡ moved (in_braces q.ahead).len q
-ending q w b e f = of-brace b (e ∙ ap (passes (λ c. c == 125)) (from-next n q.before q.ahead)) f
+ending q w b e f = of-brace b (e ∙ ap (passes (λ c. c == 125)) (scout-moved n q.before q.ahead)) f
   where
     n : ℕ
     n = prefix_len is_ascii_hexdigit q.ahead
@@ -35,7 +23,7 @@ past-braces p q r w b begun e f g h =
 
 -- a turn takes something
 pub shorter : (n c : ℕ) (p q r : Place) → Some c ≡ scout 0 p → q ≡ moved 1 p → r ≡ moved n q → length r.ahead < length p.ahead
-shorter n c p q r e f g = grind (arith, head-splits, ahead-moved, length-drop)
+shorter n c p q r e f g = grind (arith, head-splits, moved-ahead, length-drop)
 
 unescaped-drop : (n : ℕ) (cs : List ℕ) → unescaped n cs ≡ unescaped 0 (drop n cs)
 unescaped-drop zero cs = refl
@@ -44,4 +32,4 @@ unescaped-drop (suc n) (c ∷ cs) = unescaped-drop n cs
 
 -- at a backslash
 pub unescaped-at : (p q r : Place) (c : ℕ) → Some c ≡ scout 0 p → c ≡ 92 → q ≡ moved 1 p → r ≡ moved (escape q.ahead).len q → unescaped 0 p.ahead ≡ escaped q.ahead (escape q.ahead) ++ unescaped 0 r.ahead
-unescaped-at p q r c e is f g = grind (arith, head-splits, ahead-moved, unescaped-drop)
+unescaped-at p q r c e is f g = grind (arith, head-splits, moved-ahead, unescaped-drop)

@@ -1,6 +1,5 @@
 -- The names that many of these proofs cite, passed on from one place. Declares nothing.
 pub use Rattle.std.proofs.Common.{Bool, List, None, Option, Some, [], ap, append_assoc, arith, drop, false, if◌then◌else◌, length, length-drop, map, nat_lt, refl, reverse, rules, slice_get, subst, suc, sym, tests, true, zero, ℕ, ◌++◌, ◌+◌, ◌<◌, ◌==◌, ◌||◌, ◌∙◌, ◌∷◌, ◌≡◌}
-pub use Rattle.std.proofs.lemmas.Bool.{ne_eqb}
 pub use Rattle.std.proofs.lemmas.Grind.{common_steps}
 pub use Rattle.std.specs.Char.{InScalarRange, IsScalar, OutOfScalarRange, is_ascii_hexdigit}
 pub use Rattle.std.specs.List.{list_all, prefix_len}
@@ -11,7 +10,7 @@ pub use Rattle.typst_kinds.specs.Kinds.{among, same}
 pub use Rattle.typst_language.proofs.Asks.{asks-no, asks-yes, found}
 pub use Rattle.typst_language.proofs.Changes.{does-seeing}
 pub use Rattle.typst_language.proofs.Grows.{Grows, grows-init, grows-last, grows-next, grows-stuck}
-pub use Rattle.typst_language.proofs.Steps.{Turning, does-closed, does-deepest, does-gives, does-last, does-look, does-next, does-node, does-node_with_trivia, does-other, does-peek, does-pick, does-scoped, does-shape, first-noted, loose-knows, nil-seen, rewrapped-loose, turning-next}
+pub use Rattle.typst_language.proofs.Steps.{Turning, does-closed, does-deeper, does-gives, does-last, does-look, does-next, does-node, does-node_with_trivia, does-other, does-peek, does-pick, does-scoped, does-shape, does-too-deep, first-noted, loose-knows, nil-seen, rewrapped-loose, turning-next}
 pub use Rattle.typst_language.proofs.Values.{does-entered, does-value}
 pub use Rattle.typst_language.specs.Bytes.{bytes_left}
 pub use Rattle.typst_language.specs.Meaning.{Level}

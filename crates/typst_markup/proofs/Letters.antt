@@ -26,7 +26,7 @@ module _ (k : CharClasses) (text : List ℕ) (p : Place) (start : p ≡ place_at
   unfolding place_at
   from-start = ap (λ (x : Place). x.ahead) start
 
-  -- it is empty
+  -- an empty text has no letters
   pub none-letters : {first : Option ℕ} → first ≡ scout 0 p → first ≡ None → true ≡ are_letters k (chars text)
   none-letters e f = none-of k (chars text) (ap (λ cs. slice_get cs 0) (sym from-start) ∙ sym e ∙ f)
 
@@ -34,7 +34,7 @@ module _ (k : CharClasses) (text : List ℕ) (p : Place) (start : p ≡ place_at
     one : {first : Option ℕ} (c : ℕ) → first ≡ scout 0 p → first ≡ Some c → done ≡ true → chars text ≡ c ∷ []
     one c e f t = sym from-start ∙ alone p.ahead p.before c (sym e ∙ f) (ap (λ (x : Place). is_none (scout 0 x)) (sym goes) ∙ sym d ∙ t)
 
-    -- it is a letter
+    -- one letter is a text of letters
     pub one-letter : {first : Option ℕ} (c : ℕ) {b : Bool} → first ≡ scout 0 p → first ≡ Some c → done ≡ true → b ≡ k.alphabetic c → b ≡ true → b ≡ are_letters k (chars text)
     one-letter c {b = b} e f t g h = either-so (k.alphabetic c) (is_alphabetic (k.math c)) b g h ∙ ap (are_letters k) (sym (one c e f t))
 

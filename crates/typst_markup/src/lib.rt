@@ -28,7 +28,7 @@ pub use head::MarkupHead;
 pub use keys::{Key, key_of};
 pub use math_heads::{Callee, Grown, MathHead, MathTail};
 pub use named::{with_argument, wrap_named};
-pub use references::{content_block, opens_directly, reference};
+pub use references::{content_block, opens_directly, read_content, reference};
 pub use sequences::{markup, markup_exprs, markup_run, markup_turn, markup_with_trivia};
 pub use starts::{begins_code, begins_statement};
 pub use stops::{MathStop, Stop, ends_list, is_closer, separates};

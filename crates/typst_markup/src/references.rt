@@ -32,7 +32,7 @@ pub fn content_block<L: Levels>(g: &L, p: &mut Parser<'_>) -> Result<(), AllocEr
 }
 
 /// Reads a content block as a unit, which is noted where it begins and where it ends.
-fn read_content<L: Levels>(g: &L, p: &mut Parser<'_>) -> Result<(), AllocError>
+pub fn read_content<L: Levels>(g: &L, p: &mut Parser<'_>) -> Result<(), AllocError>
     requires { L.may_call g.now }
     ensures { MeansOutside (L.frame g.now) (read_block Block.Content) p.old result p.new }
 {

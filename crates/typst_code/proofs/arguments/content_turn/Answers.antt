@@ -7,4 +7,4 @@ returns-then-not-opens_directly g c l h b = does-next (does-peek _) (does-other 
 
 pub returns : goal.returns
 unfolding content_turn
-returns g c l h b = does-next (does-peek _) (does-pick (sym c.opens_directly.ensures ∙ c.if-not-opens_directly.false) (does-next (c.in_ok-read_content.ensures l h b) does-gives))
+returns g c l h b = does-next (does-peek _) (does-pick (sym c.opens_directly.ensures ∙ c.if-not-opens_directly.false) (does-next (c.in_ok-read_content.ensures l h b.outside) does-gives))

@@ -29,7 +29,7 @@ returns-in_ok-read_code-in-CodeBlock g c l h b = does-next (does-peek _) (at-hea
 
 pub returns-in_ok-read_content-in-ContentBlock : goal.returns-in_ok-read_content-in-ContentBlock
 unfolding code_primary
-returns-in_ok-read_content-in-ContentBlock g c l h b = does-next (does-peek _) (at-head c.args.atomic _ head.ContentBlock (ap (code_head c.args.atomic) (sym c.current.ensures) ∙ sym c.code_head.ensures ∙ c.in-ContentBlock.is) (c.in_ok-read_content-in-ContentBlock.ensures l h b))
+returns-in_ok-read_content-in-ContentBlock g c l h b = does-next (does-peek _) (at-head c.args.atomic _ head.ContentBlock (ap (code_head c.args.atomic) (sym c.current.ensures) ∙ sym c.code_head.ensures ∙ c.in-ContentBlock.is) (c.in_ok-read_content-in-ContentBlock.ensures l h b.outside))
 
 pub returns-in_ok-group-in-Group : goal.returns-in_ok-group-in-Group
 unfolding code_primary

@@ -4,7 +4,7 @@ use Rattle.typst_code.proofs.statements.any_block.Goals as goal
 
 pub returns-then-eq : goal.returns-then-eq
 unfolding any_block
-returns-then-eq g c l h b = asks-yes (same kind.LeftBracket) c.current.ensures c.eq.ensures c.if-eq.true (c.in_ok-read_content.ensures l h b)
+returns-then-eq g c l h b = asks-yes (same kind.LeftBracket) c.current.ensures c.eq.ensures c.if-eq.true (c.in_ok-read_content.ensures l h b.outside)
 
 pub returns-then-eq-2 : goal.returns-then-eq-2
 unfolding any_block

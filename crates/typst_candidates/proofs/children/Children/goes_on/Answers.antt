@@ -1,5 +1,6 @@
 use Rattle.typst_candidates.proofs.Cited.{arith, sym, ap, ◌∙◌, not, ◌||◌, leads, clings, bytes_of}
-use Rattle.typst_candidates.proofs.Edges.{holds_none, holds_at_byte, or_left, or_right}
+use Rattle.std.proofs.lemmas.Bool.{or_left}
+use Rattle.typst_candidates.proofs.Edges.{holds_none, holds_at_byte, or_right}
 use Rattle.typst_candidates.proofs.children.Children.goes_on.Goals as goal
 
 pub returns-then-edge-self : goal.returns-then-edge-self
