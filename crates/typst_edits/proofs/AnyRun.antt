@@ -1,6 +1,6 @@
 -- What the entries say of a candidate that is pieces of a run, and a reading that begins with one candidate and serves another one: for any run.
-use Rattle.typst_edits.proofs.Cited.{◌≡◌, ◌⊎◌, inl, inr, ◌↔◌, ℕ, zero, suc, ◌+◌, ◌-◌, ◌^◌, ◌<◌, ◌≤◌, ◌==◌, if◌then◌else◌, min, Bool, true, false, List, ◌++◌, length, take, length-append, Option, Some, refl, ap, sym, ◌∙◌, subst, arith, lt_of_not-le, eq-zero-or-pos, pos_of_ne-zero, eqb-true, eqb-false, take-append-le, Place, moved, CharClasses, Tree, bare, text_of, replaced_at, width, position, Trivia, gap_of, Note, ahead-left, Entry, Candidate, begins, entries_by, units_of, spliced, RunKind, start_of, log, tree, entries_in, front_in, rear_in, IsPieces, text_with, Run, read_as, opened_by, end_by, cut_at, is_over, nodes_now, Agrees, Before, After, PassesPieces, PassesJoint, Gives, of_pieces, path_to, bytes_of, TakesNone, ServesMore, listed, StandsAt, AllGo, End, notes_by, IsLast, BeginsAt, FoundRun, reading_on, nodes_by, SaysPiece, PassesRead, Sequence, first_of, first_end, then_of, then_end, then_place, entries_from, run_level, stops_of, end_on, kids_of_run, run_from, StandsBetween, Served, cases_eq, moved-min, begins_order, lt_of_le-ne, MeetsOn, PassesOn, reading_of}
-use Rattle.typst_edits.specs.RunTest.{Reading, read_by, carried_by, byte_after, Ends, LooksFrom, Meets}
+use Rattle.typst_edits.proofs.Cited.{◌≡◌, ◌⊎◌, inl, inr, ◌↔◌, ℕ, zero, suc, ◌+◌, ◌-◌, ◌^◌, ◌<◌, ◌≤◌, ◌==◌, if◌then◌else◌, min, Bool, true, false, List, ◌++◌, length, take, length-append, Option, Some, refl, ap, sym, ◌∙◌, subst, arith, lt_of_not-le, eq-zero-or-pos, pos_of_ne-zero, eqb-true, eqb-false, take-append-le, Place, moved, CharClasses, Tree, bare, text_of, replaced_at, width, position, Trivia, gap_of, Note, ahead-left, Entry, Candidate, begins, entries_by, units_of, spliced, RunKind, start_of, log, tree, entries_in, front_in, rear_in, IsPieces, Run, read_as, opened_by, end_by, cut_at, is_over, nodes_now, Agrees, Before, After, PassesPieces, PassesJoint, Gives, of_pieces, path_to, bytes_of, TakesNone, ServesMore, listed, StandsAt, AllGo, End, notes_by, IsLast, BeginsAt, FoundRun, reading_on, nodes_by, SaysPiece, PassesRead, Sequence, first_of, first_end, then_of, then_end, then_place, entries_from, run_level, stops_of, end_on, kids_of_run, run_from, StandsBetween, Served, cases_eq, moved-min, begins_order, lt_of_le-ne, MeetsOn, PassesOn, reading_of, TextReplacement, text_before, text_after, start_before, start_after}
+use Rattle.typst_edits.specs.RunTest.{Reading, pieces_by, carried_by, byte_after, Ends, LooksFrom, Meets}
 use Rattle.typst_grammar.specs.declared.part.RunKind.TheVariants as of
 use Rattle.typst_edits.specs.Joint.{Meets as MeetsAfter}
 use Rattle.typst_edits.specs.RunTest.Ends.{some as apart, none as at_once}
@@ -77,13 +77,13 @@ abbrev span : ℕ → ℕ → ℕ → Trivia → Span
 span i n past t = record { i = i; n = n; past = past; trivia = t }
 
 -- Pieces that are read like this, after a given number of characters, begin and end where a candidate does.
-pub record Found (front old rest : List ℕ) (c : Candidate) (q : Sequence) (opened i n past : ℕ) (t : Trivia) : Type 0 where
+pub record Found (edit : TextReplacement) (c : Candidate) (q : Sequence) (opened i n past : ℕ) (t : Trivia) : Type 0 where
   pub go : AllGo (first_of i q)
   pub go_on : AllGo (then_of i n q)
   pub known : (then_end i n q).state.known ≡ Some t
-  pub ends : (opened + ((first_end i q).taken + (then_end i n q).taken)) + t.gap ≡ (length front + length old) + past
-  pub start : c.start ≡ width (take (opened + (if i == 0 then 0 else (first_end i q).taken + gap_of (first_end i q).state.known)) (front ++ (old ++ rest)))
-  pub end : c.end ≡ width (front ++ (old ++ take past rest))
+  pub ends : (opened + ((first_end i q).taken + (then_end i n q).taken)) + t.gap ≡ (length edit.front + length edit.old) + past
+  pub start : c.start ≡ width (take (opened + (if i == 0 then 0 else (first_end i q).taken + gap_of (first_end i q).state.known)) (text_before edit))
+  pub end : c.end ≡ width (edit.front ++ (edit.old ++ take past edit.rest))
 
 right-of : {A B : Type 0} → (A → ⊥) → A ⊎ B → B
 right-of f h = grind arith
@@ -106,18 +106,18 @@ meets-too r y x e o f g t u place value state value_now state_now h = grind arit
 
 -- ---- a run, read by itself
 
-module _ (k : CharClasses) (front old new rest : List ℕ) (r : Run k (front ++ (old ++ rest))) (which : RunKind) (levels : ℕ) where
+module _ (k : CharClasses) (edit : TextReplacement) (r : Run k (text_before edit)) (which : RunKind) (levels : ℕ) where
   abbrev text : List ℕ
-  text = front ++ (old ++ rest)
+  text = text_before edit
 
   abbrev now : List ℕ
-  now = front ++ (new ++ rest)
+  now = text_after edit
 
   abbrev z : Place
-  z = text_with front old rest
+  z = start_before edit
 
   abbrev w : Place
-  w = text_with front new rest
+  w = start_after edit
 
   abbrev q : Sequence
   q = read_as r z
@@ -138,30 +138,30 @@ module _ (k : CharClasses) (front old new rest : List ℕ) (r : Run k (front ++ 
 
   -- If m pieces are read by themselves, they are those of the new text's run.
   pub record AlikeBy (i m : ℕ) (u : Trivia) : Type 0 where
-    pub go : AllGo (read_by k (read_from i) m)
+    pub go : AllGo (pieces_by k (read_from i) m)
     pub sum : end_by r i m u w ≡ far_by i m
     pub value : (then_end i m v).value ≡ carried_by k (read_from i) m
     pub nodes : nodes_now r i m u w ≡ nodes_by k (read_from i) m
 
   pub record ReadsFrom (i : ℕ) : Type 0 where
-    pub go : (m : ℕ) → AllGo (read_by k (read_from i) m) → AllGo (then_of i m v)
+    pub go : (m : ℕ) → AllGo (pieces_by k (read_from i) m) → AllGo (then_of i m v)
     pub known : (m : ℕ) → AllGo (then_of i m v) → KnownAt (then_end i m v).state
     pub alike : (m : ℕ) (u : Trivia) → AllGo (then_of i m v) → (then_end i m v).state.known ≡ Some u → AlikeBy i m u
 
   abbrev pub FoundHere : Candidate → ℕ → ℕ → ℕ → Trivia → Type 0
-  FoundHere c i n past t = Found front old rest c q (opened_by r z) i n past t
+  FoundHere c i n past t = Found edit c q (opened_by r z) i n past t
 
-  pub found-by : (c : Candidate) (i n past : ℕ) (t : Trivia) → IsPieces k front old rest r c i n past t → FoundHere c i n past t
+  pub found-by : (c : Candidate) (i n past : ℕ) (t : Trivia) → IsPieces k edit r c i n past t → FoundHere c i n past t
   found-by c i n past t p = record { go = p.go; go_on = p.go_on; known = p.known; ends = p.ends; start = p.start; end = p.end }
 
-  pub begins-now : (c : Candidate) (i n past : ℕ) (t : Trivia) → IsPieces k front old rest r c i n past t → position (moved (cut_at r i z) w) ≡ c.start
+  pub begins-now : (c : Candidate) (i n past : ℕ) (t : Trivia) → IsPieces k edit r c i n past t → position (moved (cut_at r i z) w) ≡ c.start
   begins-now c i n past t p = grind (arith, byte-at, take-append-le)
 
   -- No pieces end after the text, with their trivia.
   abbrev pub AreWithin : Type 0
   AreWithin = (m : ℕ) → opened_by r z ≤ length text → opened_by r z + ((first_end m q).taken + gap_of (first_end m q).state.known) ≤ length text
 
-  pub room-by : AreWithin → (c : Candidate) (i n past : ℕ) (t : Trivia) → FoundHere c i n past t → opened_by r z ≤ length front → past ≤ length rest
+  pub room-by : AreWithin → (c : Candidate) (i n past : ℕ) (t : Trivia) → FoundHere c i n past t → opened_by r z ≤ length edit.front → past ≤ length edit.rest
   room-by within c i n past t f early = let split = end-split-at q i n in grind (arith, length-append)
 
   -- What is known of a run's pieces by the numbers of their entries.
@@ -189,50 +189,50 @@ module _ (k : CharClasses) (front old new rest : List ℕ) (r : Run k (front ++ 
     pub counts : (i n m : ℕ) → AllGo (first_of i q) → AllGo (then_of i n q) → AllGo (then_of i m q)
         → (then_end i n q).taken + gap_of (then_end i n q).state.known ≡ (then_end i m q).taken + gap_of (then_end i m q).state.known → n ≡ m
     -- More pieces that are read by themselves end further on.
-    pub further : (i m j : ℕ) → m < j → AllGo (read_by k (read_from i) j) → far_by i m < far_by i j
+    pub further : (i m j : ℕ) → m < j → AllGo (pieces_by k (read_from i) j) → far_by i m < far_by i j
     -- of a candidate that is pieces of it
-    pub before : (c : Candidate) (i n past : ℕ) (t : Trivia) → IsPieces k front old rest r c i n past t → number i < front_in k front old rest ↔ Before k front old rest r i
-    pub behind : (c : Candidate) (i n past : ℕ) (t : Trivia) → IsPieces k front old rest r c i n past t → 0 < n → rear_in k front old rest ≤ number (i + n) ↔ After k front old rest r i n past t
-    pub alone_behind : (c : Candidate) (i n past : ℕ) (t : Trivia) → IsPieces k front old rest r c i n past t → n ≡ 0 → rear_in k front old rest ≤ alone ↔ After k front old rest r i n past t
-    pub reads : (c : Candidate) (i n past : ℕ) (t : Trivia) → IsPieces k front old rest r c i n past t → Before k front old rest r i → ReadsFrom i
+    pub before : (c : Candidate) (i n past : ℕ) (t : Trivia) → IsPieces k edit r c i n past t → number i < front_in k edit ↔ Before k edit r i
+    pub behind : (c : Candidate) (i n past : ℕ) (t : Trivia) → IsPieces k edit r c i n past t → 0 < n → rear_in k edit ≤ number (i + n) ↔ After k edit r i n past t
+    pub alone_behind : (c : Candidate) (i n past : ℕ) (t : Trivia) → IsPieces k edit r c i n past t → n ≡ 0 → rear_in k edit ≤ alone ↔ After k edit r i n past t
+    pub reads : (c : Candidate) (i n past : ℕ) (t : Trivia) → IsPieces k edit r c i n past t → Before k edit r i → ReadsFrom i
     -- Where it and new pieces are joined to what follows them, its entries are exchanged for theirs.
-    pub exchanged : width now < 2 ^ 64 - 1 → (c : Candidate) (i n m past : ℕ) (t u : Trivia) → IsPieces k front old rest r c i n past t → PassesJoint k front old new rest r i n m past t u → 0 < i + n → 0 < i + m
+    pub exchanged : width now < 2 ^ 64 - 1 → (c : Candidate) (i n m past : ℕ) (t u : Trivia) → IsPieces k edit r c i n past t → PassesJoint k edit r i n m past t u → 0 < i + n → 0 < i + m
         → units_of (log k now) ≡ spliced (number i) (number (i + n)) (entries_by c.start (notes_by k (read_from i) m)) (units_of (log k text))
 
   -- What is known of one candidate that is pieces of the run.
   pub record Chosen (entry : ℕ) (e : Entered entry) (c : Candidate) (i n past : ℕ) (t : Trivia) : Type 0 where
-    pub is : IsPieces k front old rest r c i n past t
+    pub is : IsPieces k edit r c i n past t
     pub whole : c.is_block ≡ false
     pub path : path_to r ≡ c.path
-    pub seat : Seated front old (run_from r) (kids_of_run r) c
+    pub seat : Seated edit.front edit.old (run_from r) (kids_of_run r) c
     -- However it passes, its pieces are these.
-    pub passes : (ts : List Tree) → Gives k front old new rest c ts → ((m : ℕ) × (u : Trivia) × PassesPieces k front old new rest r i n m past t u × (ts ≡ nodes_now r i m u w))
+    pub passes : (ts : List Tree) → Gives k edit c ts → ((m : ℕ) × (u : Trivia) × PassesPieces k edit r i n m past t u × (ts ≡ nodes_now r i m u w))
     -- Where pieces pass in its place, they are joined to what follows them.
-    pub joint : (m : ℕ) (u : Trivia) → PassesPieces k front old new rest r i n m past t u → PassesJoint k front old new rest r i n m past t u
+    pub joint : (m : ℕ) (u : Trivia) → PassesPieces k edit r i n m past t u → PassesJoint k edit r i n m past t u
 
   -- ---- bytes
 
   byte-is : (i m : ℕ) → byte_after k (read_from i) m ≡ width (take (far_by i m) now)
   byte-is i m = grind (arith, byte-of)
 
-  far-within : (i m : ℕ) → cut_at r i z ≤ length front → far_by i m ≤ length now
+  far-within : (i m : ℕ) → cut_at r i z ≤ length edit.front → far_by i m ≤ length now
   far-within i m early =
-      omega (arith, ends-in k (read_from i) m, ahead-left (cut_at r i z) w, length-append front (new ++ rest), early)
+      omega (arith, ends-in k (read_from i) m, ahead-left (cut_at r i z) w, length-append edit.front (edit.new ++ edit.rest), early)
 
   -- how far pieces of both texts go, by bytes
-  module _ (c : Candidate) (past : ℕ) (end : c.end ≡ width (front ++ (old ++ take past rest))) where
-    stop-width : width (take ((length front + length new) + past) now) + width old ≡ c.end + width new
-    stop-width = grind (arith, ap width (take-past front new rest past ((length front + length new) + past) refl), width-append)
+  module _ (c : Candidate) (past : ℕ) (end : c.end ≡ width (edit.front ++ (edit.old ++ take past edit.rest))) where
+    stop-width : width (take ((length edit.front + length edit.new) + past) now) + width edit.old ≡ c.end + width edit.new
+    stop-width = grind (arith, ap width (take-past edit.front edit.new edit.rest past ((length edit.front + length edit.new) + past) refl), width-append)
 
-    to-shifted : (i m : ℕ) → far_by i m ≡ (length front + length new) + past → byte_after k (read_from i) m + width old ≡ c.end + width new
+    to-shifted : (i m : ℕ) → far_by i m ≡ (length edit.front + length edit.new) + past → byte_after k (read_from i) m + width edit.old ≡ c.end + width edit.new
     to-shifted i m e = grind (arith, byte-is, stop-width)
 
-    from-shifted : (i m : ℕ) → cut_at r i z ≤ length front → past ≤ length rest → byte_after k (read_from i) m + width old ≡ c.end + width new → far_by i m ≡ (length front + length new) + past
+    from-shifted : (i m : ℕ) → cut_at r i z ≤ length edit.front → past ≤ length edit.rest → byte_after k (read_from i) m + width edit.old ≡ c.end + width edit.new → far_by i m ≡ (length edit.front + length edit.new) + past
     from-shifted i m early room e = grind (arith, length-append, take-same, far-within, byte-is, stop-width)
 
   -- ---- which pieces a candidate is
 
-  module _ (entry : ℕ) (e : Entered entry) (c : Candidate) (i n past : ℕ) (t : Trivia) (f : FoundHere c i n past t) (j m far : ℕ) (u : Trivia) (g : FoundHere c j m far u) (early : opened_by r z ≤ length front) where
+  module _ (entry : ℕ) (e : Entered entry) (c : Candidate) (i n past : ℕ) (t : Trivia) (f : FoundHere c i n past t) (j m far : ℕ) (u : Trivia) (g : FoundHere c j m far u) (early : opened_by r z ≤ length edit.front) where
     same-first : i ≡ j
     same-first =
         let cut : width (take (cut_at r i z) text) ≡ width (take (cut_at r j z) text) = sym f.start ∙ g.start in
@@ -241,18 +241,18 @@ module _ (k : CharClasses) (front old new rest : List ℕ) (r : Run k (front ++ 
     pub one-span : span i n past t ≡ span j m far u
     one-span =
         let first = same-first in
-        let room : past ≡ far = take-same past far rest (room-by e.within c i n past t f early) (room-by e.within c j m far u g early)
-        (omega (arith, width-append front (old ++ take past rest), width-append old (take past rest), width-append front (old ++ take far rest), width-append old (take far rest), f.end, g.end)) in
+        let room : past ≡ far = take-same past far edit.rest (room-by e.within c i n past t f early) (room-by e.within c j m far u g early)
+        (omega (arith, width-append edit.front (edit.old ++ take past edit.rest), width-append edit.old (take past edit.rest), width-append edit.front (edit.old ++ take far edit.rest), width-append edit.old (take far edit.rest), f.end, g.end)) in
         grind arith
 
     -- So however it passes, these pieces do.
-    pub passes-too : (d : ℕ) (b : Trivia) (ts : List Tree) → PassesPieces k front old new rest r j m d far u b → ts ≡ nodes_now r j d b w → ((d : ℕ) × (b : Trivia) × PassesPieces k front old new rest r i n d past t b × (ts ≡ nodes_now r i d b w))
+    pub passes-too : (d : ℕ) (b : Trivia) (ts : List Tree) → PassesPieces k edit r j m d far u b → ts ≡ nodes_now r j d b w → ((d : ℕ) × (b : Trivia) × PassesPieces k edit r i n d past t b × (ts ≡ nodes_now r i d b w))
     passes-too d b ts h made = grind (arith, one-span)
 
   -- ---- the numbers that are found
 
-  module _ (entry : ℕ) (e : Entered entry) (c : Candidate) (i n past : ℕ) (t : Trivia) (p : IsPieces k front old rest r c i n past t) where
-    room-here : past ≤ length rest
+  module _ (entry : ℕ) (e : Entered entry) (c : Candidate) (i n past : ℕ) (t : Trivia) (p : IsPieces k edit r c i n past t) where
+    room-here : past ≤ length edit.rest
     room-here = let early = p.early in room-by e.within c i n past t (found-by c i n past t p) (omega (arith, early))
 
     first-go : AllGo (first_of (i + n) q)
@@ -269,7 +269,7 @@ module _ (k : CharClasses) (front old new rest : List ℕ) (r : Run k (front ++ 
     none-more last = elim (eq-zero-or-pos n) [ inl is ↦ is | inr some ↦ (let all = fits in absurd (e.not_last i (omega (arith, all, some)) last)) ]
 
     end-byte : 0 < i + n → c.end ≡ width (take (cut_at r (i + n) z) text)
-    end-byte some = p.end ∙ sym (ap width (take-past front old rest past (cut_at r (i + n) z) (omega (arith, ap (λ (u : End (Bool × ℕ)). u.taken) (end-split-at q i n), ap (λ (u : End (Bool × ℕ)). gap_of u.state.known) (end-split-at q i n) ∙ ap gap_of p.known, p.ends, cut-some r (i + n) z some))))
+    end-byte some = p.end ∙ sym (ap width (take-past edit.front edit.old edit.rest past (cut_at r (i + n) z) (omega (arith, ap (λ (u : End (Bool × ℕ)). u.taken) (end-split-at q i n), ap (λ (u : End (Bool × ℕ)). gap_of u.state.known) (end-split-at q i n) ∙ ap gap_of p.known, p.ends, cut-some r (i + n) z some))))
 
     begins-there : BeginsAt es entry c.start (e.number i)
     begins-there = let all = fits in subst (λ d. BeginsAt es entry d (e.number i)) (sym p.start) (e.begins i (omega (arith, all)))
@@ -297,7 +297,7 @@ module _ (k : CharClasses) (front old new rest : List ℕ) (r : Run k (front ++ 
     looks-of zero is = grind (arith, eqb-true)
     looks-of (suc d) is = let all = fits in from_pieces (e.not_last i (omega (arith, all, is)))
 
-    behind-is : (d : ℕ) → n ≡ d → rear_in k front old rest ≤ looks_by d e.alone (e.number (i + n)) ↔ After k front old rest r i n past t
+    behind-is : (d : ℕ) → n ≡ d → rear_in k edit ≤ looks_by d e.alone (e.number (i + n)) ↔ After k edit r i n past t
     behind-is zero is = e.alone_behind c i n past t p is
     behind-is (suc d) is = e.behind c i n past t p (omega (arith, is))
 
@@ -339,12 +339,12 @@ module _ (k : CharClasses) (front old new rest : List ℕ) (r : Run k (front ++ 
     -- ---- what passes
 
     abbrev pub Read : ℕ → Type 0
-    Read m = PassesRead k front old new rest c (read_from i) (e.number i) (e.number (i + n)) (looks_by n e.alone (e.number (i + n))) (first_end (i + n) q).value m
+    Read m = PassesRead k edit c (read_from i) (e.number i) (e.number (i + n)) (looks_by n e.alone (e.number (i + n))) (first_end (i + n) q).value m
 
     -- If m pieces pass the test, their nodes are those that are read.
     pub record Given (m : ℕ) : Type 0 where
       pub behind : Trivia
-      pub passes : PassesPieces k front old new rest r i n m past t behind
+      pub passes : PassesPieces k edit r i n m past t behind
       pub nodes : nodes_now r i m behind w ≡ nodes_by k (read_from i) m
 
     pub given-by : (m : ℕ) → Read m → Given m
@@ -371,7 +371,7 @@ module _ (k : CharClasses) (front old new rest : List ℕ) (r : Run k (front ++ 
           nodes = x.nodes;
         }
 
-    pub read-by : (m : ℕ) (u : Trivia) → PassesPieces k front old new rest r i n m past t u → Read m × (nodes_now r i m u w ≡ nodes_by k (read_from i) m)
+    pub read-by : (m : ℕ) (u : Trivia) → PassesPieces k edit r i n m past t u → Read m × (nodes_now r i m u w ≡ nodes_by k (read_from i) m)
     read-by m u h =
         let x = (e.reads c i n past t p h.before).alike m u h.new_go h.known_now in (
           record {
@@ -384,15 +384,15 @@ module _ (k : CharClasses) (front old new rest : List ℕ) (r : Run k (front ++ 
           x.nodes,
         )
 
-    rises-by : e.number i < front_in k front old rest → (m j : ℕ) → m < j → AllGo (read_by k (read_from i) j) → byte_after k (read_from i) m < byte_after k (read_from i) j
+    rises-by : e.number i < front_in k edit → (m j : ℕ) → m < j → AllGo (pieces_by k (read_from i) j) → byte_after k (read_from i) m < byte_after k (read_from i) j
     rises-by early m j l go = grind (arith, byte-is, take-longer, far-within)
 
     -- how its entries are exchanged for those of m pieces that are read
     abbrev pub UnitsBy : ℕ → Type 0
     UnitsBy m = units_of (log k now) ≡ spliced (e.number i) (e.number (i + n)) (entries_by c.start (notes_by k (read_from i) m)) (units_of (log k text))
 
-    pub found : ((ts : List Tree) → Gives k front old new rest c ts → ((m : ℕ) × (u : Trivia) × PassesPieces k front old new rest r i n m past t u × (ts ≡ nodes_now r i m u w))) → c.is_block ≡ false → path_to r ≡ c.path
-        → ((m : ℕ) → Read m → (which ≡ of.Block → (IsLast es (e.number i) → ⊥) × (0 < m)) → UnitsBy m) → FoundRun k front old new rest c which levels entry
+    pub found : ((ts : List Tree) → Gives k edit c ts → ((m : ℕ) × (u : Trivia) × PassesPieces k edit r i n m past t u × (ts ≡ nodes_now r i m u w))) → c.is_block ≡ false → path_to r ≡ c.path
+        → ((m : ℕ) → Read m → (which ≡ of.Block → (IsLast es (e.number i) → ⊥) × (0 < m)) → UnitsBy m) → FoundRun k edit c which levels entry
     found passes whole path units = record {
       from = e.number i;
       to = e.number (i + n);
@@ -428,16 +428,16 @@ module _ (k : CharClasses) (front old new rest : List ℕ) (r : Run k (front ++ 
   pub record ServedBy (root : Tree) (first c : Candidate) (x : Keys) : Type 0 where
     pub earlier : x.from ≤ x.mid
     pub until : x.mid ≤ x.to
-    pub gives : (ts : List Tree) → Gives k front old new rest c ts
-        → ((m : ℕ) × PassesOn k front old new rest first c x.reading x.to x.looks x.carried_end m × (replaced_at c.path c.from c.to ts root ≡ replaced_at c.path first.from c.to (nodes_by k x.reading m) root))
-    pub gives_too : (m : ℕ) → PassesOn k front old new rest first c x.reading x.to x.looks x.carried_end m
-        → ((ts : List Tree) × Gives k front old new rest c ts × (replaced_at c.path c.from c.to ts root ≡ replaced_at c.path first.from c.to (nodes_by k x.reading m) root))
-    pub units : (m : ℕ) → PassesOn k front old new rest first c x.reading x.to x.looks x.carried_end m
+    pub gives : (ts : List Tree) → Gives k edit c ts
+        → ((m : ℕ) × PassesOn k edit first c x.reading x.to x.looks x.carried_end m × (replaced_at c.path c.from c.to ts root ≡ replaced_at c.path first.from c.to (nodes_by k x.reading m) root))
+    pub gives_too : (m : ℕ) → PassesOn k edit first c x.reading x.to x.looks x.carried_end m
+        → ((ts : List Tree) × Gives k edit c ts × (replaced_at c.path c.from c.to ts root ≡ replaced_at c.path first.from c.to (nodes_by k x.reading m) root))
+    pub units : (m : ℕ) → PassesOn k edit first c x.reading x.to x.looks x.carried_end m
         → (which ≡ of.Block → (IsLast es x.from → ⊥) × ((c.start < first.start) ⊎ (0 < m)))
         → units_of (log k now) ≡ spliced x.mid x.to (entries_by first.start (notes_by k x.reading m)) (units_of (log k text))
 
-  module _ (entry : ℕ) (e : Entered entry) (root : Tree) (same : bare root ≡ bare (tree k (front ++ (old ++ rest)))) (first c : Candidate) (i j n past n0 past0 : ℕ) (t t0 : Trivia)
-      (a : Chosen entry e c i n past t) (b : Chosen entry e first (i + suc j) n0 past0 t0) (begun : e.number (i + suc j) < front_in k front old rest) (big_new : width now < 2 ^ 64 - 1) where
+  module _ (entry : ℕ) (e : Entered entry) (root : Tree) (same : bare root ≡ bare (tree k (text_before edit))) (first c : Candidate) (i j n past n0 past0 : ℕ) (t t0 : Trivia)
+      (a : Chosen entry e c i n past t) (b : Chosen entry e first (i + suc j) n0 past0 t0) (begun : e.number (i + suc j) < front_in k edit) (big_new : width now < 2 ^ 64 - 1) where
     -- A given number of pieces stand before the reading begins.
     abbrev d : ℕ
     d = suc j
@@ -445,7 +445,7 @@ module _ (k : CharClasses) (front old new rest : List ℕ) (r : Run k (front ++ 
     abbrev mid : ℕ
     mid = i + suc j
 
-    looks : Before k front old rest r mid
+    looks : Before k edit r mid
     looks = (e.before first mid n0 past0 t0 b.is).0 begun
 
     clear : TakesNone mid q
@@ -456,8 +456,8 @@ module _ (k : CharClasses) (front old new rest : List ℕ) (r : Run k (front ++ 
 
     in-order : mid < i + n
     in-order = lt_of_not-le (λ l.
-        (let early : first.start < width front = b.seat.early (b.is.led.0 (omega arith)) in
-        by-order l (omega (arith, early, a.seat.late, width-append front old, b.is.start, end-byte entry e c i n past t a.is (omega (arith, some-pieces))))))
+        (let early : first.start < width edit.front = b.seat.early (b.is.led.0 (omega arith)) in
+        by-order l (omega (arith, early, a.seat.late, width-append edit.front edit.old, b.is.start, end-byte entry e c i n past t a.is (omega (arith, some-pieces))))))
       where
         -- A candidate without a piece is the whole run.
         some-pieces : 0 < n
@@ -488,24 +488,24 @@ module _ (k : CharClasses) (front old new rest : List ℕ) (r : Run k (front ++ 
     abbrev rest_of_it : Candidate
     rest_of_it = record c { start = first.start; from = first.from }
 
-    rest-is : IsPieces k front old rest r rest_of_it mid left past t
+    rest-is : IsPieces k edit r rest_of_it mid left past t
     rest-is =
         let here = subst (λ m. AllGo (first_of m q)) (sym sum-is) (first-go entry e c i n past t a.is) in
         grind (arith, end-split-at, sum-is, go-second, first-split, left-some)
 
     -- ---- what passes
 
-    serves : ServesMore k front old new rest r i d
-    serves = one-reading-law k front old new rest r i d b.is.go looks
+    serves : ServesMore k edit r i d
+    serves = one-reading-law k edit r i d b.is.go looks
 
     reads : ReadsFrom mid
     reads = e.reads first mid n0 past0 t0 b.is looks
 
     abbrev On : ℕ → Type 0
-    On m = PassesOn k front old new rest first c (read_from mid) (e.number (i + n)) (e.number (i + n)) (first_end (i + n) q).value m
+    On m = PassesOn k edit first c (read_from mid) (e.number (i + n)) (e.number (i + n)) (first_end (i + n) q).value m
 
     abbrev Test : ℕ → Trivia → Type 0
-    Test m u = PassesPieces k front old new rest r i n (d + m) past t u
+    Test m u = PassesPieces k edit r i n (d + m) past t u
 
     some-n : 0 < n
     some-n = let l = left-is in omega (arith, l)
@@ -559,11 +559,11 @@ module _ (k : CharClasses) (front old new rest : List ℕ) (r : Run k (front ++ 
     first-more : AllGo (first_of (suc mid) q)
     first-more = let sum : i + n ≡ suc mid + ((i + n) - suc mid) = omega (arith, in-order) in grind (arith, first-go entry e c i n past t a.is, go-first, first-split)
 
-    between : StandsBetween k (front ++ (old ++ rest)) r i d c.from first.from
+    between : StandsBetween k (text_before edit) r i d c.from first.from
     between = record {
       first = λ none. none-led none;
-      starts = λ some. subst (λ x. StandsAt (run_from r) (kids_of_run r) c.from x) a.is.start (seat-stands front old (run_from r) (kids_of_run r) c a.seat (a.is.led.0 some));
-      ends = subst (λ x. StandsAt (run_from r) (kids_of_run r) first.from x) b.is.start (seat-stands front old (run_from r) (kids_of_run r) first b.seat (b.is.led.0 (omega arith)));
+      starts = λ some. subst (λ x. StandsAt (run_from r) (kids_of_run r) c.from x) a.is.start (seat-stands edit.front edit.old (run_from r) (kids_of_run r) c a.seat (a.is.led.0 some));
+      ends = subst (λ x. StandsAt (run_from r) (kids_of_run r) first.from x) b.is.start (seat-stands edit.front edit.old (run_from r) (kids_of_run r) first b.seat (b.is.led.0 (omega arith)));
     }
       where
         none-led : i ≡ 0 → c.from ≡ 0
@@ -573,9 +573,9 @@ module _ (k : CharClasses) (front old new rest : List ℕ) (r : Run k (front ++ 
         → replaced_at c.path c.from c.to (nodes_now r i (d + m) u w) root ≡ replaced_at c.path first.from c.to (nodes_now r mid m u w) root
     put m u go known =
         let x = e.known mid b.is.go in
-        let order = seats-in-order front old (run_from r) (kids_of_run r) c first a.seat b.seat in
+        let order = seats-in-order edit.front edit.old (run_from r) (kids_of_run r) c first a.seat b.seat in
         subst (λ path. replaced_at path c.from c.to (nodes_now r i (d + m) u w) root ≡ replaced_at path first.from c.to (nodes_now r mid m u w) root) a.path
-        (put-behind-law k front old new rest r i d m x.trivia u c.from first.from c.to root same (omega arith) first-more looks x.is clear between order go known)
+        (put-behind-law k edit r i d m x.trivia u c.from first.from c.to root same (omega arith) first-more looks x.is clear between order go known)
 
     pub later : ServedBy root first c (record { reading = read_from mid; mid = e.number mid; from = e.number i; to = e.number (i + n); looks = e.number (i + n); carried_end = (first_end (i + n) q).value })
     later = record {
@@ -585,7 +585,7 @@ module _ (k : CharClasses) (front old new rest : List ℕ) (r : Run k (front ++ 
           (let p = a.passes ts h in
           let m = p.0 - d in
           let sum : p.0 ≡ d + m = omega (arith, serves.least n p.0 past t p.1 p.2) in
-          let test : Test m p.1 = subst (λ x. PassesPieces k front old new rest r i n x past t p.1) sum p.2 in
+          let test : Test m p.1 = subst (λ x. PassesPieces k edit r i n x past t p.1) sum p.2 in
           let on = from-test m p.1 test in
           let parts = ((serves.passes n m past t p.1).0 test).1 in
           (m, on.0, ap (λ us. replaced_at c.path c.from c.to us root) (p.3 ∙ ap (λ x. nodes_now r i x p.1 w) sum) ∙ put m p.1 parts.new_go parts.known_now ∙ ap (λ us. replaced_at c.path first.from c.to us root) on.1));
@@ -598,13 +598,13 @@ module _ (k : CharClasses) (front old new rest : List ℕ) (r : Run k (front ++ 
           let all = a.joint (d + m) p.behind p.test in
           let was = same-end q i n mid left (sym sum-is) in
           let ends = same-end v i (d + m) mid m (omega arith) in
-          let joint : PassesJoint k front old new rest r mid left m past t p.behind = record {
+          let joint : PassesJoint k edit r mid left m past t p.behind = record {
             encloses = all.encloses;
             first_go = rest-is.go;
             old_go = rest-is.go_on;
             new_go = p.go;
             before = looks;
-            after = (e.behind rest_of_it mid left past t rest-is left-some).0 (subst (λ x. rear_in k front old rest ≤ e.number x) (sym sum-is) ((e.behind c i n past t a.is some-n).1 p.test.after));
+            after = (e.behind rest_of_it mid left past t rest-is left-some).0 (subst (λ x. rear_in k edit ≤ e.number x) (sym sum-is) ((e.behind c i n past t a.is some-n).1 p.test.after));
             ends = rest-is.ends;
             shifted = omega (arith, ends.taken, all.shifted);
             meets = meets-too q _ _ (then_end i n q) (then_end mid left q) (then_end i (d + m) v) (then_end mid m v) t p.behind was.place was.value was.state ends.value ends.state all.meets;
@@ -615,12 +615,12 @@ module _ (k : CharClasses) (front old new rest : List ℕ) (r : Run k (front ++ 
 
   -- ---- where the reading begins with the candidate
 
-  module _ (entry : ℕ) (root : Tree) (first c : Candidate) (g : FoundRun k front old new rest c which levels entry) (starts : c.start ≡ first.start) (from : c.from ≡ first.from) (begun : g.from < front_in k front old rest) where
+  module _ (entry : ℕ) (root : Tree) (first c : Candidate) (g : FoundRun k edit c which levels entry) (starts : c.start ≡ first.start) (from : c.from ≡ first.from) (begun : g.from < front_in k edit) where
     abbrev OnOwn : ℕ → Type 0
-    OnOwn m = PassesOn k front old new rest first c (reading_of g) g.to g.looks g.carried_end m
+    OnOwn m = PassesOn k edit first c (reading_of g) g.to g.looks g.carried_end m
 
     abbrev Own : ℕ → Type 0
-    Own m = PassesRead k front old new rest c (reading_of g) g.from g.to g.looks g.carried_end m
+    Own m = PassesRead k edit c (reading_of g) g.from g.to g.looks g.carried_end m
 
     not-led : c.start < first.start → ⊥
     not-led l = omega (arith, l, starts)
@@ -651,37 +651,37 @@ module _ (k : CharClasses) (front old new rest : List ℕ) (r : Run k (front ++ 
   -- ---- both
 
   -- What is found of a candidate is what its pieces say.
-  module _ (entry : ℕ) (e : Entered entry) (c : Candidate) (i n past : ℕ) (t : Trivia) (p : IsPieces k front old rest r c i n past t) (g : FoundRun k front old new rest c which levels entry) where
+  module _ (entry : ℕ) (e : Entered entry) (c : Candidate) (i n past : ℕ) (t : Trivia) (p : IsPieces k edit r c i n past t) (g : FoundRun k edit c which levels entry) where
     found-from : g.from ≡ e.number i
     found-from = (ends-are entry e c i n past t p g.from g.to g.ends).0
 
-    found-reading : g.from < front_in k front old rest → reading_of g ≡ read_from i
+    found-reading : g.from < front_in k edit → reading_of g ≡ read_from i
     found-reading begun =
         let carried = says-once es g.from (e.number i) g.carried (first_end i q).value g.says (e.says i (omega (arith, fits entry e c i n past t p))) found-from in
         let cut = cut_at r i z in
         let early = p.early in
-        let bytes : width (take cut text) ≡ width (take cut now) = ap width (take-append-le cut front (old ++ rest) early ∙ sym (take-append-le cut front (new ++ rest) early)) in
+        let bytes : width (take cut text) ≡ width (take cut now) = ap width (take-append-le cut edit.front (edit.old ++ edit.rest) early ∙ sym (take-append-le cut edit.front (edit.new ++ edit.rest) early)) in
         let there = moved-min g.at (start_of now) in
-        let same = take-same (min g.at (length now)) cut now (omega arith) (omega (arith, early, length-append front (new ++ rest))) (sym (byte-at (min g.at (length now)) now) ∙ ap position there ∙ (g.start_now begun ∙ p.start ∙ bytes)) in
+        let same = take-same (min g.at (length now)) cut now (omega arith) (omega (arith, early, length-append edit.front (edit.new ++ edit.rest))) (sym (byte-at (min g.at (length now)) now) ∙ ap position there ∙ (g.start_now begun ∙ p.start ∙ bytes)) in
         let place = sym there ∙ ap (λ n. moved n (start_of now)) same in
         (λ x. reading_on which levels (carried x) (place x))
 
-  module _ (entry : ℕ) (e : Entered entry) (root : Tree) (same : bare root ≡ bare (tree k (front ++ (old ++ rest)))) (first c : Candidate) (i n past n0 past0 : ℕ) (t t0 : Trivia) (a : Chosen entry e c i n past t)
-      (f : FoundRun k front old new rest first which levels entry) (g : FoundRun k front old new rest c which levels entry) (begun : f.from < front_in k front old rest) (big_new : width now < 2 ^ 64 - 1) where
+  module _ (entry : ℕ) (e : Entered entry) (root : Tree) (same : bare root ≡ bare (tree k (text_before edit))) (first c : Candidate) (i n past n0 past0 : ℕ) (t t0 : Trivia) (a : Chosen entry e c i n past t)
+      (f : FoundRun k edit first which levels entry) (g : FoundRun k edit c which levels entry) (begun : f.from < front_in k edit) (big_new : width now < 2 ^ 64 - 1) where
     served-by : (d : ℕ) → Chosen entry e first (i + d) n0 past0 t0 → ServedBy root first c (record { reading = reading_of f; mid = f.from; from = g.from; to = g.to; looks = g.looks; carried_end = g.carried_end })
     served-by zero b =
         let none : i + zero ≡ i = omega arith in
         let starts = a.is.start ∙ ap (λ m. width (take (cut_at r m z) text)) (sym none) ∙ sym b.is.start in
         let led : 0 < c.from ↔ 0 < first.from = ((λ l. b.is.led.0 (subst (λ m. 0 < m) (sym none) (a.is.led.1 l))), (λ l. a.is.led.0 (subst (λ m. 0 < m) none (b.is.led.1 l)))) in
         let from =
-        neither c.from first.from (λ l. not-before front old (run_from r) (kids_of_run r) c first a.seat b.seat starts (led.1 (omega (arith, l))) l) (λ l. not-before front old (run_from r) (kids_of_run r) first c b.seat a.seat (sym starts) (led.0 (omega (arith, l))) l) in
+        neither c.from first.from (λ l. not-before edit.front edit.old (run_from r) (kids_of_run r) c first a.seat b.seat starts (led.1 (omega (arith, l))) l) (λ l. not-before edit.front edit.old (run_from r) (kids_of_run r) first c b.seat a.seat (sym starts) (led.0 (omega (arith, l))) l) in
         let mid : g.from ≡ f.from = found-from entry e c i n past t a.is g ∙ ap e.number (sym none) ∙ sym (found-from entry e first (i + zero) n0 past0 t0 b.is f) in
-        let there : g.from < front_in k front old rest = omega (arith, begun, mid) in
+        let there : g.from < front_in k edit = omega (arith, begun, mid) in
         let reading : reading_of g ≡ reading_of f = found-reading entry e c i n past t a.is g there ∙ ap read_from (sym none) ∙ sym (found-reading entry e first (i + zero) n0 past0 t0 b.is f begun) in
         subst (λ x. ServedBy root first c x) (λ x. record { reading = reading x; mid = mid x; from = g.from; to = g.to; looks = g.looks; carried_end = g.carried_end }) (at-start entry root first c g starts from there)
     served-by (suc j) b =
         let mid = found-from entry e first (i + suc j) n0 past0 t0 b.is f in
-        let there : e.number (i + suc j) < front_in k front old rest = omega (arith, begun, mid) in
+        let there : e.number (i + suc j) < front_in k edit = omega (arith, begun, mid) in
         let reading = found-reading entry e first (i + suc j) n0 past0 t0 b.is f begun in
         let from = found-from entry e c i n past t a.is g in
         let to = (ends-are entry e c i n past t a.is g.from g.to g.ends).1 in
@@ -690,8 +690,8 @@ module _ (k : CharClasses) (front old new rest : List ℕ) (r : Run k (front ++ 
         subst (λ x. ServedBy root first c x) (λ x. record { reading = sym reading x; mid = sym mid x; from = sym from x; to = sym to x; looks = sym looks x; carried_end = sym end x }) (later entry e root same first c i j n past n0 past0 t t0 a b there big_new)
 
     -- A reading that begins with one candidate serves each that begins there or earlier.
-    pub served : (i0 : ℕ) → Chosen entry e first i0 n0 past0 t0 → c.start ≤ first.start → Served k front old new rest root which levels entry first c f g
+    pub served : (i0 : ℕ) → Chosen entry e first i0 n0 past0 t0 → c.start ≤ first.start → Served k edit root which levels entry first c f g
     served i0 b l =
         let sum : i0 ≡ i + (i0 - i) = (let most = not-less i i0 (λ less. (let more = e.cuts i0 i less a.is.go in let one = a.is.start in let two = b.is.start in omega (arith, more, one, two, l))) in omega (arith, most)) in
         let s = served-by (i0 - i) (subst (λ m. Chosen entry e first m n0 past0 t0) sum b) in
-        record { earlier = s.earlier; until = s.until; order = seats-in-order front old (run_from r) (kids_of_run r) c first a.seat b.seat; gives = s.gives; gives_too = s.gives_too; units = s.units }
+        record { earlier = s.earlier; until = s.until; order = seats-in-order edit.front edit.old (run_from r) (kids_of_run r) c first a.seat b.seat; gives = s.gives; gives_too = s.gives_too; units = s.units }

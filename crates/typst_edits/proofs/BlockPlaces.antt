@@ -1,5 +1,5 @@
 -- Where a block of a text stands, by the bytes of a candidate, also within a reading that was given up.
-use Rattle.typst_edits.proofs.Cited.{◌≡◌, ℕ, zero, suc, ◌+◌, ◌<◌, ◌≤◌, true, List, [], ◌∷◌, ◌++◌, length, take, refl, ap, sym, ◌∙◌, subst, arith, drop, false, append-nil, length-append, None, CharClasses, Tree, forest, trees, text_of, bare, trees_forest, width, texts, texts-append, texts-one, Candidate, top_cuts, max_depth, start_of, parsed, log, tree, rules, whole, candidates, Among, Deep, fill, Hole, plug, path_in, path_of, under, listed, Spot, unit_at, last_node, after_spot, here_spot, nil_from_length, Place, moved, Block, utf8_ahead, at_trivia, Point, Stands, Parser, flushes, meaning_of, level_of, Meaning, Level, blockless, less, start_point, done, sane-block, markup_reading, block_at, level_seconds, seconds_of_text}
+use Rattle.typst_edits.proofs.Cited.{◌≡◌, ℕ, zero, suc, ◌+◌, ◌<◌, ◌≤◌, true, List, [], ◌∷◌, ◌++◌, length, take, refl, ap, sym, ◌∙◌, subst, arith, drop, false, append-nil, length-append, None, CharClasses, Tree, forest, trees, text_of, bare, trees_forest, width, texts, texts-append, texts-one, Candidate, top_cuts, max_depth, start_of, parsed, log, tree, rules, whole, Among, Deep, fill, Hole, plug, path_in, path_of, under, listed, Spot, unit_at, last_node, after_spot, here_spot, nil_from_length, Place, moved, Block, utf8_ahead, at_trivia, Point, Stands, Parser, flushes, meaning_of, level_of, Meaning, Level, blockless, less, start_point, done, sane-block, markup_reading, block_at, level_seconds, seconds_of_text, candidates_between}
 use Rattle.typst_edits.specs.Hole.Deep.{bare as alone}
 use Rattle.typst_edits.proofs.CandidatePlaces.{bare-candidates-law}
 use Rattle.typst_edits.proofs.MarkupCandidates.{BlockAt, all-find}
@@ -38,7 +38,7 @@ hole-same h g x y p e =
 
 -- ---- a block candidate
 
-pub candidate-at : (k : CharClasses) (text : List ℕ) (from to : ℕ) (root : Tree) (c : Candidate) → bare root ≡ bare (tree k text) → Among c (candidates k text from to root) → c.is_block ≡ true
+pub candidate-at : (k : CharClasses) (text : List ℕ) (from to : ℕ) (root : Tree) (c : Candidate) → bare root ≡ bare (tree k text) → Among c (candidates_between k text from to root) → c.is_block ≡ true
     → BlockAt [] 0 from to (parsed k max_depth text).nodes c
 unfolding tree
 candidate-at k text from to root c same chosen is =

@@ -1,5 +1,5 @@
 -- The law of an edit inside some pieces of a run: of a text's and of a content block's.
-use Rattle.typst_edits.proofs.Cited.{◌≡◌, ℕ, ◌+◌, ◌<◌, Bool, true, List, ◌++◌, length, refl, ap, sym, ◌∙◌, subst, arith, suc, ◌==◌, if◌then◌else◌, ne_eqb, false, [], ◌∷◌, Place, moved, CharClasses, SameIn, is_end, too_deep, Point, point_of, state_of, gap_of, peek, flush_trivia, close_if, node, node_with_trivia, repeat, does, Outcome, repeated, run, plain, joined, entered, done, Framed, Within, sane-at, Sane, sane-run, sane-meaning, sane-plain, same_in-shift, same_in-first, same_in-second, moved-sum, markup_run, markup_turn, ends_block, content_block, markup_is_empty, markup_reading, rules, max_depth, start_of, whole, parsed, level_at, text_with, Passes, AllGo, asks_of, chain, piece_at, start, lead, pieces, end_at, pieces_from, end_from, rest_from, tail, whole_of, after_pieces, text_run, same, marked, AtHand, after_node, itself, Parser, ◌>>◌, takes, block_at, Sequence, turn_of, first_of, first_end, then_of, then_end, then_place, rest_of, Spot, ended, unit_at, inner, look_first, look_again, bracket, inner_lead, inner_run, inner_tail, inner_close, content_with, run_at, tail_at, close_at, EndsBefore, run_of, body_of, left_at, content_of, InnerLaw}
+use Rattle.typst_edits.proofs.Cited.{◌≡◌, ℕ, ◌+◌, ◌<◌, Bool, true, List, ◌++◌, length, refl, ap, sym, ◌∙◌, subst, arith, suc, ◌==◌, if◌then◌else◌, ne_eqb, false, [], ◌∷◌, Place, moved, CharClasses, SameIn, is_end, too_deep, Point, point_of, state_of, gap_of, peek, flush_trivia, close_if, node, node_with_trivia, repeat, does, Outcome, repeated, run, plain, joined, entered, done, Framed, Within, sane-at, Sane, sane-run, sane-meaning, sane-plain, same_in-shift, same_in-first, same_in-second, moved-sum, markup_run, markup_turn, ends_block, content_block, markup_is_empty, markup_reading, rules, max_depth, start_of, whole, parsed, level_at, Passes, AllGo, asks_of, chain, piece_at, start, lead, tail, whole_of, text_run, same, marked, AtHand, after_node, itself, Parser, ◌>>◌, takes, block_at, Sequence, turn_of, first_of, first_end, then_of, then_end, then_place, rest_of, Spot, ended, unit_at, inner, look_first, look_again, bracket, inner_lead, inner_run, inner_tail, inner_close, content_with, run_at, tail_at, close_at, EndsBefore, run_of, body_of, left_at, content_of, InnerLaw, TextReplacement, text_before, text_after, start_before, start_after}
 use Rattle.typst_edits.specs.Runs.{RunLaw, StartLaw}
 use Rattle.typst_edits.proofs.Edit.{before-same, after-same}
 use Rattle.typst_edits.proofs.Spots.{same_in-at}
@@ -29,10 +29,10 @@ module _ (k : CharClasses) where
 
   -- The pieces before are the same.
   pub record First (i : ℕ) (z w : Place) : Type 0 where
-    pub pieces_same : pieces k i w ≡ pieces k i z
+    pub pieces_same : first_of i (text_run k w) ≡ first_of i (text_run k z)
     pub lead_same : 0 < i → lead k w ≡ lead k z
 
-  pub pieces-same : (i : ℕ) (z w : Place) → (0 < i → SameIn ((lead k z).asks ++ asks_of (pieces k i z)) z w) → First i z w
+  pub pieces-same : (i : ℕ) (z w : Place) → (0 < i → SameIn ((lead k z).asks ++ asks_of (first_of i (text_run k z))) z w) → First i z w
   pieces-same i z w h = record {
     pieces_same = first-again (level_at k max_depth) is_end (sane-at (rules k) k max_depth peek).framed framed start i z w h;
     lead_same = λ l. (sane-at (rules k) k max_depth peek).framed z w start (same_in-first (lead k z).asks _ z w (h l));
@@ -42,53 +42,53 @@ module _ (k : CharClasses) where
   tail-same n m s z w same = (sane-at (rules k) k max_depth flush_trivia).framed (moved n z) (moved m w) s same
 
 pub run-law : RunLaw
-run-law k front old new rest i n m past h =
-    let z = text_with front old rest in
-    let w = text_with front new rest in
-    let f = pieces-same k i z w (λ l. before-same _ front old new rest (h.before l)) in
-    let e = end_at k i z in
-    let g = end_from k i n z in
-    let d = end_at k i w in
-    let c = end_from k i m w in
-    let t = rest_from k i n z in
-    let r = chain (pieces k i z) (chain (pieces_from k i n z) t) in
-    let q = chain (pieces k i w) (chain (pieces_from k i m w) (rest_from k i m w)) in
-    let new_first : AllGo (pieces k i w) = subst (λ os. AllGo os) (sym f.pieces_same) h.first_go in
-    let old_end : (end_at k i z).taken + (end_from k i n z).taken ≡ (length front + length old) + past = h.ends in
-    let new_end : (end_at k i w).taken + (end_from k i m w).taken ≡ (length front + length new) + past = h.shifted in
-    let old_at = (length front + length old) + past in
-    let new_at = (length front + length new) + past in
-    let all = after-same _ past old_at new_at front old new rest refl refl h.after in
+run-law k edit i n m past h =
+    let z = start_before edit in
+    let w = start_after edit in
+    let f = pieces-same k i z w (λ l. before-same _ edit (h.before l)) in
+    let e = first_end i (text_run k z) in
+    let g = then_end i n (text_run k z) in
+    let d = first_end i (text_run k w) in
+    let c = then_end i m (text_run k w) in
+    let t = rest_of i n (text_run k z) in
+    let r = chain (first_of i (text_run k z)) (chain (then_of i n (text_run k z)) t) in
+    let q = chain (first_of i (text_run k w)) (chain (then_of i m (text_run k w)) (rest_of i m (text_run k w))) in
+    let new_first : AllGo (first_of i (text_run k w)) = subst (λ os. AllGo os) (sym f.pieces_same) h.first_go in
+    let old_end : (first_end i (text_run k z)).taken + (then_end i n (text_run k z)).taken ≡ (length edit.front + length edit.old) + past = h.ends in
+    let new_end : (first_end i (text_run k w)).taken + (then_end i m (text_run k w)).taken ≡ (length edit.front + length edit.new) + past = h.shifted in
+    let old_at = (length edit.front + length edit.old) + past in
+    let new_at = (length edit.front + length edit.new) + past in
+    let all = after-same _ past old_at new_at edit refl refl h.after in
     let z_end : moved g.taken (moved e.taken z) ≡ moved old_at z = sym (moved-sum e.taken g.taken z) ∙ ap (λ j. moved j z) old_end in
     let w_end : moved c.taken (moved d.taken w) ≡ moved new_at w = sym (moved-sum d.taken c.taken w) ∙ ap (λ j. moved j w) new_end in
-    let rest_is : rest_from k i m w ≡ t = rest-again (text_run k z) (λ x. (sane-at (rules k) k max_depth (repeat (markup_turn true is_end) x)).framed) g c _ _ h.value h.state (same_in-at t.asks _ _ _ _ z_end w_end (same_in-first t.asks _ _ _ all)) in
+    let rest_is : rest_of i m (text_run k w) ≡ t = rest-again (text_run k z) (λ x. (sane-at (rules k) k max_depth (repeat (markup_turn true is_end) x)).framed) g c _ _ h.value h.state (same_in-at t.asks _ _ _ _ z_end w_end (same_in-first t.asks _ _ _ all)) in
     let behind = same_in-shift t.taken _ _ _ (same_in-second t.asks _ _ _ all) in
     let u = tail k (old_at + t.taken) t.state z in
     let tail_is : tail k (new_at + t.taken) t.state w ≡ u = tail-same k (old_at + t.taken) (new_at + t.taken) t.state z w (same_in-at u.asks _ _ _ _ (moved-sum old_at t.taken z) (moved-sum new_at t.taken w) behind) in
     let r_taken : r.taken ≡ old_at + t.taken = split-taken (text_run k z) i n ∙ ap (λ j. j + t.taken) old_end in
-    let r_state : r.state ≡ t.state = chain-state (pieces k i z) _ ∙ chain-state (pieces_from k i n z) t in
-    let q_taken : q.taken ≡ new_at + t.taken = split-taken (text_run k w) i m ∙ ap (λ j. j + (rest_from k i m w).taken) new_end ∙ ap (λ (o : Outcome (Bool × ℕ)). new_at + o.taken) rest_is in
-    let q_state : q.state ≡ t.state = chain-state (pieces k i w) _ ∙ chain-state (pieces_from k i m w) _ ∙ ap (λ (o : Outcome (Bool × ℕ)). o.state) rest_is in
+    let r_state : r.state ≡ t.state = chain-state (first_of i (text_run k z)) _ ∙ chain-state (then_of i n (text_run k z)) t in
+    let q_taken : q.taken ≡ new_at + t.taken = split-taken (text_run k w) i m ∙ ap (λ j. j + (rest_of i m (text_run k w)).taken) new_end ∙ ap (λ (o : Outcome (Bool × ℕ)). new_at + o.taken) rest_is in
+    let q_state : q.state ≡ t.state = chain-state (first_of i (text_run k w)) _ ∙ chain-state (then_of i m (text_run k w)) _ ∙ ap (λ (o : Outcome (Bool × ℕ)). o.state) rest_is in
     let old_tail : tail k r.taken r.state z ≡ u = ap (λ j. tail k j r.state z) r_taken ∙ ap (λ s. tail k (old_at + t.taken) s z) r_state in
     let new_tail : tail k q.taken q.state w ≡ u = ap (λ j. tail k j q.state w) q_taken ∙ ap (λ s. tail k (new_at + t.taken) s w) q_state ∙ tail_is in
     record {
       first = f.pieces_same;
       lead_same = f.lead_same;
-      was = whole-is k (front ++ (old ++ rest)) ∙ ap (λ o. whole_of (lead k z) o (tail k o.taken o.state z)) (split (text_run k z) (within k) i n h.first_go h.old_go);
-      now = whole-is k (front ++ (new ++ rest)) ∙ ap (λ o. whole_of (lead k w) o (tail k o.taken o.state w)) (split (text_run k w) (within k) i m new_first h.new_go)
-          ∙ (λ v. whole_of (lead k w) (chain (f.pieces_same v) (chain (pieces_from k i m w) (rest_is v))) ((new_tail ∙ sym old_tail) v));
+      was = whole-is k (text_before edit) ∙ ap (λ o. whole_of (lead k z) o (tail k o.taken o.state z)) (split (text_run k z) (within k) i n h.first_go h.old_go);
+      now = whole-is k (text_after edit) ∙ ap (λ o. whole_of (lead k w) o (tail k o.taken o.state w)) (split (text_run k w) (within k) i m new_first h.new_go)
+          ∙ (λ v. whole_of (lead k w) (chain (f.pieces_same v) (chain (then_of i m (text_run k w)) (rest_is v))) ((new_tail ∙ sym old_tail) v));
     }
 
 pub start-law : StartLaw
-start-law k front old new rest i g before =
-    let w = text_with front new rest in
-    let f = pieces-same k i (text_with front old rest) w (λ l. before-same _ front old new rest (before l)) in
+start-law k edit i g before =
+    let w = start_after edit in
+    let f = pieces-same k i (start_before edit) w (λ l. before-same _ edit (before l)) in
     let e = repeated-chain (piece_at k) (within k) i (true, 0) w (lead k w).state (subst (λ os. AllGo os) (sym f.pieces_same) g) in
     record {
       first = f.pieces_same;
       lead_same = f.lead_same;
-      now = whole-is k (front ++ (new ++ rest)) ∙ ap (λ o. whole_of (lead k w) o (tail k o.taken o.state w)) e
-          ∙ ap (λ os. (let o = chain os (after_pieces k i w) in whole_of (lead k w) o (tail k o.taken o.state w))) f.pieces_same;
+      now = whole-is k (text_after edit) ∙ ap (λ o. whole_of (lead k w) o (tail k o.taken o.state w)) e
+          ∙ ap (λ os. (let o = chain os (rest_of i 0 (text_run k w)) in whole_of (lead k w) o (tail k o.taken o.state w))) f.pieces_same;
     }
 
 -- ---- a content block
@@ -190,27 +190,27 @@ module _ (k : CharClasses) (levels : ℕ) where
   seq_by b z = record { level = inner k levels; stops = ends_block; place = moved b.taken z; point = (run (inner k levels) peek (moved b.taken z) b.state).state }
 
 -- If what was looked at before them ends at the stretch or before it, the bracket and the pieces before are the same in both texts.
-pub record FirstSame (k : CharClasses) (levels : ℕ) (front old new rest : List ℕ) (c : Spot (Unit {0})) (i : ℕ) : Type 0 where
-  pub opened : (let s = point_of c.start in bracket k levels (moved c.at (text_with front new rest)) s ≡ bracket k levels (moved c.at (text_with front old rest)) s)
-  pub first : first_of i (run_at k levels c (text_with front new rest)) ≡ first_of i (run_at k levels c (text_with front old rest))
+pub record FirstSame (k : CharClasses) (levels : ℕ) (edit : TextReplacement) (c : Spot (Unit {0})) (i : ℕ) : Type 0 where
+  pub opened : (let s = point_of c.start in bracket k levels (moved c.at (start_after edit)) s ≡ bracket k levels (moved c.at (start_before edit)) s)
+  pub first : first_of i (run_at k levels c (start_after edit)) ≡ first_of i (run_at k levels c (start_before edit))
 
-pub first-same : (k : CharClasses) (levels : ℕ) (front old new rest : List ℕ) (c : Spot (Unit {0})) (i : ℕ) → EndsBefore k levels front old rest c i → FirstSame k levels front old new rest c i
-first-same k levels front old new rest c i h =
-    let z0 = text_with front old rest in
-    let w0 = text_with front new rest in
+pub first-same : (k : CharClasses) (levels : ℕ) (edit : TextReplacement) (c : Spot (Unit {0})) (i : ℕ) → EndsBefore k levels edit c i → FirstSame k levels edit c i
+first-same k levels edit c i h =
+    let z0 = start_before edit in
+    let w0 = start_after edit in
     let z = moved c.at z0 in
     let w = moved c.at w0 in
     let s = point_of c.start in
     let b = bracket k levels z s in
-    let opened : bracket k levels w s ≡ b = bracket-same k levels z w s (same_in-shift c.at _ z0 w0 (before-same _ front old new rest h.opens)) in
+    let opened : bracket k levels w s ≡ b = bracket-same k levels z w s (same_in-shift c.at _ z0 w0 (before-same _ edit h.opens)) in
     let shown : 0 < i → SameIn ((inner_lead k levels z s).asks ++ asks_of (first_of i (run_at k levels c z0))) (moved b.taken z) (moved b.taken w) = λ l.
-    same_in-at _ _ _ _ _ (sym (moved-sum c.at b.taken z0)) (sym (moved-sum c.at b.taken w0)) (same_in-shift (c.at + b.taken) _ z0 w0 (before-same _ front old new rest (h.before_run l))) in
+    same_in-at _ _ _ _ _ (sym (moved-sum c.at b.taken z0)) (sym (moved-sum c.at b.taken w0)) (same_in-shift (c.at + b.taken) _ z0 w0 (before-same _ edit (h.before_run l))) in
     record { opened = opened; first = ap (λ o. first_of i (seq_by k levels o w)) opened ∙ first-again (inner k levels) ends_block (sane k levels peek).framed (λ x. (sane k levels (markup_turn true ends_block x)).framed) b.state i (moved b.taken z) (moved b.taken w) shown }
 
 pub inner-law : InnerLaw
-inner-law k levels front old new rest c i n m past among h =
-    let z0 = text_with front old rest in
-    let w0 = text_with front new rest in
+inner-law k levels edit c i n m past among h =
+    let z0 = start_before edit in
+    let w0 = start_after edit in
     let z = moved c.at z0 in
     let w = moved c.at w0 in
     let s = point_of c.start in
@@ -218,7 +218,7 @@ inner-law k levels front old new rest c i n m past among h =
     let q = run_at k levels c w0 in
     let b = bracket k levels z s in
     let d = bracket k levels w s in
-    let first_is : first_of i q ≡ first_of i r = (first-same k levels front old new rest c i h.pieces.looks).first in
+    let first_is : first_of i q ≡ first_of i r = (first-same k levels edit c i h.pieces.looks).first in
     let new_first : AllGo (first_of i q) = subst (λ os. AllGo os) (sym first_is) h.pieces.first_go in
     let e = first_end i r in
     let g = then_end i n r in
@@ -228,13 +228,13 @@ inner-law k levels front old new rest c i n m past among h =
     let u = rest_of i m q in
     let tail = tail_at k levels i n c z0 in
     let close = close_at k levels i n c z0 in
-    let old_at = (length front + length old) + past in
-    let new_at = (length front + length new) + past in
+    let old_at = (length edit.front + length edit.old) + past in
+    let new_at = (length edit.front + length edit.new) + past in
     let y = then_place i n r in
     let v = then_place i m q in
     let y_is : y ≡ moved old_at z0 = moved-four c.at b.taken e.taken g.taken z0 ∙ ap (λ a. moved a z0) h.ends in
     let v_is : v ≡ moved new_at w0 = moved-four c.at d.taken f.taken j.taken w0 ∙ ap (λ a. moved a w0) h.shifted in
-    let all = same_in-at _ _ _ _ _ y_is v_is (after-same _ past old_at new_at front old new rest refl refl h.looks.inside) in
+    let all = same_in-at _ _ _ _ _ y_is v_is (after-same _ past old_at new_at edit refl refl h.looks.inside) in
     let rest_is : u ≡ t = rest-again r (λ x. (sane k levels (repeat (markup_turn true ends_block) x)).framed) g j y v h.value h.state (same_in-first t.asks _ y v all) in
     let behind = same_in-shift t.taken _ y v (same_in-second t.asks _ y v all) in
     let y1 = moved t.taken y in
@@ -255,7 +255,7 @@ inner-law k levels front old new rest c i n m past among h =
     let close_is : close_at k levels i m c w0 ≡ close =
     ap (λ a. shut_at k levels a (tail_at k levels i m c w0).state) v2_is ∙ ap (λ (o : Outcome (Unit {0})). shut_at k levels v2 o.state) tail_is
     ∙ (sane k levels (close_if (same kind.RightBracket))).framed y2 v2 (after_node false [] tail.state) (subst (λ (o : Outcome Bool). SameIn o.asks y2 v2) close_old last) ∙ sym close_old in
-    let reads = content-reads k (front ++ (old ++ rest)) c among levels h.pieces.name h.pieces.level in
+    let reads = content-reads k (text_before edit) c among levels h.pieces.name h.pieces.level in
     let ended_of = λ (o : Outcome (Unit {0})). ended o in
     let was = reads z0 ∙ ap ended_of (content-split k levels z s i n h.pieces.first_go h.pieces.old_go) in
     let now = reads w0 ∙ ap ended_of (content-split k levels w s i m new_first h.pieces.new_go)
@@ -267,7 +267,7 @@ inner-law k levels front old new rest c i n m past among h =
     let same_rest : u.taken ≡ t.taken = ap (λ (o : Outcome (Bool × ℕ)). o.taken) rest_is in
     let new_taken : (unit_at c w0).taken ≡ d.taken + (p.taken + (tail.taken + close.taken)) =
     ap (λ (o : Outcome (Unit {0})). o.taken) now ∙ content-taken k levels w s (chain (first_of i r) (chain (then_of i m q) t)) tail close ∙ ap (λ a. d.taken + (a + (tail.taken + close.taken))) new_chain in
-    let passes : Passes front old new rest c (past + left_at k levels i n c z0) = record {
+    let passes : Passes edit c (past + left_at k levels i n c z0) = record {
       starts = h.pieces.starts;
       ends = omega (arith, old_taken, h.ends);
       goes_on = h.goes_on;
@@ -275,4 +275,4 @@ inner-law k levels front old new rest c i n m past among h =
       after = h.looks.behind;
       shifted = omega (arith, new_taken, h.shifted, split-taken q i m, same_rest);
     } in
-    record { was = was; now = now; passes = passes; kept = block-law k front old new rest c _ among passes }
+    record { was = was; now = now; passes = passes; kept = block-law k edit c _ among passes }

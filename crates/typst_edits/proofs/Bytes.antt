@@ -1,5 +1,5 @@
 -- The test of an edit in bytes: the notes that a log keeps of what is asked, and what their numbers say of the looks.
-use Rattle.typst_edits.proofs.Cited.{◌≡◌, ℕ, suc, ◌+◌, ◌-◌, ◌<◌, ◌≤◌, ◌^◌, max, min, List, [], ◌∷◌, ◌++◌, length, append_assoc, append-nil, Some, refl, ap, sym, ◌∙◌, arith, zero, Bool, true, false, if◌then◌else◌, Option, None, take, length-append, subst, Place, moved, position, far, near, width, Mark, Note, State, Ask, shift, sunk, looked, marked, Log, no_log, logged, with_note, moved-sum, highest, lowest, listed, Noting, noting, notes_in, lowered, Spot, unit_at, around, same, SyntaxMode, CharClasses, Newlines, Reading, len_at, at_trivia, asks_by, ahead_asks, ahead_of, asks_column, column_asks, hand_asks, as_at_hand, Trivia, Point, state_of, Outcome, Level, plain, joined, hand_of, hand_asks_of, asked, done, run, start_point, itself, close_if, takes, on_both, markup_reading, rules, max_depth, start_of, whole, parsed, log, text_with, AllEndBy, AllBeginIn, blocks_of_text, block_at, Named, logged-append}
+use Rattle.typst_edits.proofs.Cited.{◌≡◌, ℕ, suc, ◌+◌, ◌-◌, ◌<◌, ◌≤◌, ◌^◌, max, min, List, [], ◌∷◌, ◌++◌, length, append_assoc, append-nil, Some, refl, ap, sym, ◌∙◌, arith, zero, Bool, true, false, if◌then◌else◌, Option, None, take, length-append, subst, Place, moved, position, far, near, width, Mark, Note, State, Ask, shift, sunk, looked, marked, Log, no_log, logged, with_note, moved-sum, highest, lowest, listed, Noting, noting, notes_in, lowered, Spot, unit_at, around, same, SyntaxMode, CharClasses, Newlines, Reading, len_at, at_trivia, asks_by, ahead_asks, ahead_of, asks_column, column_asks, hand_asks, as_at_hand, Trivia, Point, state_of, Outcome, Level, plain, joined, hand_of, hand_asks_of, asked, done, run, start_point, itself, close_if, takes, on_both, markup_reading, rules, max_depth, start_of, whole, parsed, log, text_with, AllEndBy, AllBeginIn, blocks_of_text, block_at, Named, logged-append, TextReplacement, text_before, start_before}
 use Rattle.typst_tokens.specs.Sight.{hull_of}
 use Rattle.typst_language.specs.Log.{with_hull}
 use Rattle.typst_edits.specs.Bytes.{Decided, DecisionLaw}
@@ -293,13 +293,13 @@ begin-to front old rest end past (marked at gap fewer m s ∷ asks) e f = begin-
 pub asks-are : (os bs es own cs ls : List Ask) (a c : Ask) → os ≡ bs ++ (own ++ cs) → bs ≡ es ++ a ∷ [] → cs ≡ c ∷ ls → os ≡ es ++ (a ∷ (own ++ c ∷ ls))
 asks-are os bs es own cs ls a c e f g = e ∙ ap (λ u. u ++ (own ++ cs)) f ∙ append_assoc es (a ∷ []) (own ++ cs) ∙ ap (λ u. es ++ (a ∷ (own ++ u))) g
 
-decided : (k : CharClasses) (front old rest : List ℕ) (c : Spot (Unit {0})) (past : ℕ) → (let z = text_with front old rest in
-    parsed k max_depth (front ++ (old ++ rest)) ≡ around c (unit_at c z) c.node → Named (block_at k) max_depth c → AllAt (length (front ++ (old ++ rest))) (parsed k max_depth (front ++ (old ++ rest))).asks
-    → (unit_at c z).taken + c.at ≡ (length front + length old) + past → Decided (log k (front ++ (old ++ rest))) front old rest c past)
+decided : (k : CharClasses) (edit : TextReplacement) (c : Spot (Unit {0})) (past : ℕ) → (let z = start_before edit in
+    parsed k max_depth (text_before edit) ≡ around c (unit_at c z) c.node → Named (block_at k) max_depth c → AllAt (length (text_before edit)) (parsed k max_depth (text_before edit)).asks
+    → (unit_at c z).taken + c.at ≡ (length edit.front + length edit.old) + past → Decided (log k (text_before edit)) edit c past)
 unfolding log position
-decided k front old rest c past o n a e =
-    let z = text_with front old rest in
-    let text = front ++ (old ++ rest) in
+decided k edit c past o n a e =
+    let z = start_before edit in
+    let text = text_before edit in
     let u = unit_at c z in
     let end = c.at + u.taken in
     let own = shift c.at (lowered c.fewer u.asks) in
@@ -321,7 +321,7 @@ decided k front old rest c past o n a e =
     let within = subst (λ ls. AllAt (length text) ls) e0 a in
     let within_before = looks-first (at-most (length text)) n.earlier _ within in
     let within_after = looks-second (at-most (length text)) own _ (looks-second (at-most (length text)) n.earlier _ within) in
-    let there : end ≡ (length front + length old) + past = omega (arith, e) in
+    let there : end ≡ (length edit.front + length edit.old) + past = omega (arith, e) in
     record {
       earlier = notes_before;
       opens = first;
@@ -337,23 +337,23 @@ decided k front old rest c past o n a e =
       end = (let there = width-moved (end + 0) text in let none : end + 0 ≡ end = omega arith in there ∙ ap (λ n. width (take n text)) none);
       number = ap notes_in n.opened ∙ notes-one n.earlier c.at 0 c.fewer start_mark c.start ∙ ap suc (sym (noted-length max_depth z n.earlier 0 none_yet));
       long = noted-length max_depth z own 0 none_yet ∙ notes-own c.at c.fewer u.asks;
-      before = λ h. subst (λ ls. AllEndBy (length front) ls) (sym n.opened) (looks-both (ending (length front)) n.earlier (noting opening ∷ [])
-          (end-by front (old ++ rest) n.earlier within_before (reach-by max_depth (width front) z n.earlier 0 none_yet h).1) tt);
-      before_too = λ h. reach-to max_depth (width front) z n.earlier 0 none_yet (omega arith)
-          (end-to front (old ++ rest) n.earlier (looks-first (ending (length front)) n.earlier (noting opening ∷ []) (subst (λ ls. AllEndBy (length front) ls) n.opened h)));
-      after_too = λ big h. subst (λ l. width (front ++ old) < lowest notes_late l) (sym least)
-          (least-to max_depth (width (front ++ old)) z late 0 none_yet big big (begin-to front old rest end past n.later there (subst (λ ls. AllBeginIn past rest ls) n.closed h)));
-      after = λ h. subst (λ ls. AllBeginIn past rest ls) (sym n.closed)
-          (begin-by front old rest end past n.later there within_after (least-by max_depth (width (front ++ old)) z late 0 none_yet (subst (λ l. width (front ++ old) < lowest notes_late l) least h)).1);
+      before = λ h. subst (λ ls. AllEndBy (length edit.front) ls) (sym n.opened) (looks-both (ending (length edit.front)) n.earlier (noting opening ∷ [])
+          (end-by edit.front (edit.old ++ edit.rest) n.earlier within_before (reach-by max_depth (width edit.front) z n.earlier 0 none_yet h).1) tt);
+      before_too = λ h. reach-to max_depth (width edit.front) z n.earlier 0 none_yet (omega arith)
+          (end-to edit.front (edit.old ++ edit.rest) n.earlier (looks-first (ending (length edit.front)) n.earlier (noting opening ∷ []) (subst (λ ls. AllEndBy (length edit.front) ls) n.opened h)));
+      after_too = λ big h. subst (λ l. width (edit.front ++ edit.old) < lowest notes_late l) (sym least)
+          (least-to max_depth (width (edit.front ++ edit.old)) z late 0 none_yet big big (begin-to edit.front edit.old edit.rest end past n.later there (subst (λ ls. AllBeginIn past edit.rest ls) n.closed h)));
+      after = λ h. subst (λ ls. AllBeginIn past edit.rest ls) (sym n.closed)
+          (begin-by edit.front edit.old edit.rest end past n.later there within_after (least-by max_depth (width (edit.front ++ edit.old)) z late 0 none_yet (subst (λ l. width (edit.front ++ edit.old) < lowest notes_late l) least h)).1);
     }
 
 pub decision-law : DecisionLaw
 unfolding blocks_of_text
-decision-law k front old rest c past i e =
-    let z = text_with front old rest in
+decision-law k edit c past i e =
+    let z = start_before edit in
     let s = start_point markup_reading in
-    let o = parsed k max_depth (front ++ (old ++ rest)) in
+    let o = parsed k max_depth (text_before edit) in
     let l = among (Lawful z z o o) c _ i (inside-level (rules k) k (ends k) max_depth whole z z s) in
     let n = among (Named (block_at k) max_depth) c _ i (named-level (rules k) k max_depth whole z s) in
-    let b : max 0 (length (front ++ (old ++ rest))) ≡ length (front ++ (old ++ rest)) = omega arith in
-    decided k front old rest c past l.old n (subst (λ n. AllAt n o.asks) b (in-level (rules k) k max_depth whole z s)) e
+    let b : max 0 (length (text_before edit)) ≡ length (text_before edit) = omega arith in
+    decided k edit c past l.old n (subst (λ n. AllAt n o.asks) b (in-level (rules k) k max_depth whole z s)) e

@@ -1,5 +1,5 @@
 -- Each candidate that passes is worth its new nodes and entries: a block, pieces of a text's own run, and pieces of a content block.
-use Rattle.typst_edits.proofs.Cited.{◌≡◌, ℕ, zero, suc, ◌+◌, ◌≤◌, List, [], ◌∷◌, ◌++◌, length, refl, ap, sym, ◌∙◌, subst, arith, Bool, true, false, IsTrue, length-append, take, Option, Tree, forest, trees, inner_of, Forest, none, more, bare, Reaches, put_at, trees_forest, CharClasses, moved, position, width, Candidate, is_among, begins, laid, first_near, run_in, candidates_at, tree, parsed, max_depth, log, block_log, with_children, exchanged, Among, alter, replaced, text_with, Passes, put, path_of, blocks_of_text, notes_in, entries_from, token_start, Spot, last_node, unit_at, is_over, Agrees, top, PassesPieces, of_block, of_pieces, text_run, root_run, StandsAt, BeginsWell, end_note, pieces_log, asks_of, pieces, pieces_from, end_from, piece_at, lead, end_at, Note, Trivia, gap_of, top_cuts, candidates, Every, OpensApartLaw, listed, true_from_ne_false, block_run, token_after, Worth, CandidateLaw}
+use Rattle.typst_edits.proofs.Cited.{◌≡◌, ℕ, zero, suc, ◌+◌, ◌≤◌, List, [], ◌∷◌, ◌++◌, length, refl, ap, sym, ◌∙◌, subst, arith, Bool, true, false, IsTrue, length-append, take, Option, Tree, forest, trees, inner_of, Forest, none, more, bare, Reaches, put_at, trees_forest, CharClasses, moved, position, width, Candidate, is_among, begins, laid, first_near, run_in, candidates_at, tree, parsed, max_depth, log, block_log, with_children, exchanged, Among, alter, replaced, Passes, put, path_of, blocks_of_text, notes_in, entries_from, token_start, Spot, last_node, unit_at, is_over, Agrees, top, PassesPieces, of_block, of_pieces, text_run, root_run, StandsAt, BeginsWell, end_note, pieces_log, asks_of, piece_at, lead, Note, Trivia, gap_of, top_cuts, candidates, Every, listed, true_from_ne_false, block_run, token_after, Worth, CandidateLaw, TextReplacement, text_before, text_after, start_before, start_after, candidates_between, first_of, first_end, then_of, then_end}
 use Rattle.typst_edits.specs.Frame.{inner}
 use Rattle.typst_edits.specs.BlockWorth.{BlockWorthLaw}
 use Rattle.typst_edits.proofs.RunSplice.{block-splice-law, run-splice-law, around-splice-law}
@@ -43,26 +43,26 @@ replaced-one [] from x ts = ap (λ us. inner_of kind.Markup (forest (alter from 
 replaced-one (n ∷ path) from x ts = ap (λ us. inner_of kind.Markup (forest (alter n (put (path ++ from ∷ []) x) us))) (sym (trees_forest ts))
 
 -- The tree of the new text, whatever its length.
-pub block-tree : (k : CharClasses) (front old new rest : List ℕ) (c : Candidate) (s : Spot (Unit {0})) (past : ℕ) → Among s (blocks_of_text k (front ++ (old ++ rest)))
-    → path_of s.hole ≡ c.path ++ c.from ∷ [] → c.to ≡ suc c.from → Reaches c.path c.from c.to (tree k (front ++ (old ++ rest))) → Passes front old new rest s past
-    → tree k (front ++ (new ++ rest)) ≡ put_at c.path c.from c.to (last_node (unit_at s (text_with front new rest)).nodes ∷ []) (tree k (front ++ (old ++ rest)))
+pub block-tree : (k : CharClasses) (edit : TextReplacement) (c : Candidate) (s : Spot (Unit {0})) (past : ℕ) → Among s (blocks_of_text k (text_before edit))
+    → path_of s.hole ≡ c.path ++ c.from ∷ [] → c.to ≡ suc c.from → Reaches c.path c.from c.to (tree k (text_before edit)) → Passes edit s past
+    → tree k (text_after edit) ≡ put_at c.path c.from c.to (last_node (unit_at s (start_after edit)).nodes ∷ []) (tree k (text_before edit))
 unfolding tree
-block-tree k front old new rest c s past among at one reaches passes =
-    let kept = block-law k front old new rest s past among passes in
-    let x = last_node (unit_at s (text_with front new rest)).nodes in
-    let nodes = (parsed k max_depth (front ++ (old ++ rest))).nodes in
-    let there : Reaches c.path c.from (suc c.from) (tree k (front ++ (old ++ rest))) = subst (λ j. Reaches c.path c.from j (tree k (front ++ (old ++ rest)))) one reaches in
-    kept.tree ∙ ap (λ p. inner_of kind.Markup (forest (replaced p x nodes))) at ∙ replaced-one c.path c.from x nodes ∙ put-one c.path c.from x (tree k (front ++ (old ++ rest))) there
-    ∙ ap (λ j. with_children c.path c.from j (x ∷ []) (tree k (front ++ (old ++ rest)))) (sym one) ∙ sym (put-law c.path c.from c.to (x ∷ []) (tree k (front ++ (old ++ rest))))
+block-tree k edit c s past among at one reaches passes =
+    let kept = block-law k edit s past among passes in
+    let x = last_node (unit_at s (start_after edit)).nodes in
+    let nodes = (parsed k max_depth (text_before edit)).nodes in
+    let there : Reaches c.path c.from (suc c.from) (tree k (text_before edit)) = subst (λ j. Reaches c.path c.from j (tree k (text_before edit))) one reaches in
+    kept.tree ∙ ap (λ p. inner_of kind.Markup (forest (replaced p x nodes))) at ∙ replaced-one c.path c.from x nodes ∙ put-one c.path c.from x (tree k (text_before edit)) there
+    ∙ ap (λ j. with_children c.path c.from j (x ∷ []) (tree k (text_before edit))) (sym one) ∙ sym (put-law c.path c.from c.to (x ∷ []) (tree k (text_before edit)))
 
 pub block-worth-law : BlockWorthLaw
-block-worth-law k front old new rest c s past among at one reaches passes short short-now =
-    let spliced = block-splice-law k front old new rest s past among passes short short-now in
+block-worth-law k edit c s past among at one reaches passes short short-now =
+    let spliced = block-splice-law k edit s past among passes short short-now in
     record {
-      is_tree = block-tree k front old new rest c s past among at one reaches passes;
+      is_tree = block-tree k edit c s past among at one reaches passes;
       from = spliced.opens;
-      to = suc (spliced.opens + notes_in (unit_at s (text_with front old rest)).asks);
-      part = entries_from (position (moved s.at (text_with front new rest))) (block_log (front ++ (new ++ rest)) s (unit_at s (text_with front new rest))).notes;
+      to = suc (spliced.opens + notes_in (unit_at s (start_before edit)).asks);
+      part = entries_from (position (moved s.at (start_after edit))) (block_log (text_after edit) s (unit_at s (start_after edit))).notes;
       units = spliced.units;
     }
 
@@ -74,30 +74,31 @@ over-by k text true i m x y a e = refl
 over-by k text false i m x y a e = absurd (omega (arith, a.0, e))
 
 pub root-worth-law : RootWorthLaw
-root-worth-law k front old new rest c i n m past t u path start led end h well over big big_new =
-    let z = text_with front old rest in
-    let w = text_with front new rest in
-    let from = notes_in (asks_of (pieces k i z)) in
+root-worth-law k edit c i n m past t u path start led end h well over big big_new =
+    let own = root_run k (text_before edit) in
+    let z = start_before edit in
+    let w = start_after edit in
+    let from = notes_in (asks_of (first_of i (text_run k z))) in
     record {
-      is_tree = pieces-law k front old new rest top c i n m past t u tt path start led end h well;
+      is_tree = pieces-law k edit top c i n m past t u tt path start led end h well;
       from = from;
-      to = from + notes_in (asks_of (pieces_from k i n z));
-      part = entries_from (token_start w (end_note k i w)) (pieces_log k i m w).notes;
-      units = run-splice-law k front old new rest i n m past t u (joins-of k front old new rest top i n m past t u tt h well.goes_on) over
-          (over-by k (front ++ (old ++ rest)) (is_over i n (text_run k z)) i m (end_from k i n z).value (end_from k i m w).value h.agrees) big big_new;
+      to = from + notes_in (asks_of (then_of i n (text_run k z)));
+      part = entries_from (token_start w (end_note own i w)) (pieces_log own i m w).notes;
+      units = run-splice-law k edit own i n m past t u (joins-of k edit top i n m past t u tt h well.goes_on) over
+          (over-by k (text_before edit) (is_over i n (text_run k z)) i m (then_end i n (text_run k z)).value (then_end i m (text_run k w)).value h.agrees) big big_new;
     }
 
 pub inner-worth-law : InnerWorthLaw
-inner-worth-law k levels front old new rest s among name level c i n m past t u around path start led end h well big big_new =
-    let w = text_with front new rest in
+inner-worth-law k levels edit s among name level c i n m past t u around path start led end h well big big_new =
+    let w = start_after edit in
     let own = block_run s levels among name level in
-    let joint = joins-of k front old new rest own i n m past t u around h well.goes_on in
-    let whole = around-splice-law k levels front old new rest s among name level i n m past t u joint big big_new in
+    let joint = joins-of k edit own i n m past t u around h well.goes_on in
+    let whole = around-splice-law k levels edit s among name level i n m past t u joint big big_new in
     record {
-      is_tree = pieces-law k front old new rest own c i n m past t u around path start led end h well;
+      is_tree = pieces-law k edit own c i n m past t u around path start led end h well;
       from = whole.opens;
-      to = suc (whole.opens + notes_in (unit_at s (text_with front old rest)).asks);
-      part = entries_from (position (moved s.at w)) (block_log (front ++ (new ++ rest)) s (unit_at s w)).notes;
+      to = suc (whole.opens + notes_in (unit_at s (start_before edit)).asks);
+      part = entries_from (position (moved s.at w)) (block_log (text_after edit) s (unit_at s w)).notes;
       units = whole.units;
     }
 
@@ -118,14 +119,14 @@ module _ (ns : List Note) (rs re : ℕ) where
       (λ c e on one is. refl)
       (every-by {Q = One} (λ c (o : Own path c) is. absurd (let no = sym is ∙ o.pieces in cc)) _ (run-own rs re path (at + length h.text) (trees ks) run))
 
-pub one-child : (k : CharClasses) (text : List ℕ) (rs re : ℕ) (root : Tree) (c : Candidate) → Among c (candidates k text rs re root) → One c
+pub one-child : (k : CharClasses) (text : List ℕ) (rs re : ℕ) (root : Tree) (c : Candidate) → Among c (candidates_between k text rs re root) → One c
 one-child k text rs re root c chosen = among One c _ chosen (all-one (listed (log k text).notes) rs re [] (top_cuts (listed (log k text).notes)) 0 0 (forest (root ∷ [])))
 
 -- a text's tree is an inner node
 pub tree-inner : (k : CharClasses) (text : List ℕ) → IsTrue (tree k text).head.is_inner
 tree-inner k text = subst (λ (t : Tree). IsTrue t.head.is_inner) (sym (tree-is k text 0 0 tt tt)) refl
 
-pub reached : (k : CharClasses) (text : List ℕ) (rs re : ℕ) (root : Tree) (c : Candidate) → rs ≤ re → bare root ≡ bare (tree k text) → Among c (candidates k text rs re root) → Reaches c.path c.from c.to (tree k text)
+pub reached : (k : CharClasses) (text : List ℕ) (rs re : ℕ) (root : Tree) (c : Candidate) → rs ≤ re → bare root ≡ bare (tree k text) → Among c (candidates_between k text rs re root) → Reaches c.path c.from c.to (tree k text)
 reached k text rs re root c order same chosen =
     let was = tree k text in
     let ns = listed (log k text).notes in
@@ -139,49 +140,49 @@ in-order front old = let w = width-append front old in omega (arith, w)
 -- ---- pieces of a text's own run
 
 -- Where none are read at the start of a text, no child stands after them; the child where a candidate ends begins after a piece.
-no-piece : (k : CharClasses) (front old new rest : List ℕ) (root : Tree) (c : Candidate) (m past : ℕ) (t u : Trivia) → bare root ≡ bare (tree k (front ++ (old ++ rest)))
-    → Among c (candidates k (front ++ (old ++ rest)) (width front) (width (front ++ old)) root) → c.is_block ≡ false → c.path ≡ [] → c.end ≡ width (front ++ (old ++ take past rest))
-    → PassesPieces k front old new rest (root_run k (front ++ (old ++ rest))) 0 0 m past t u → StandsAt 0 (trees (tree k (front ++ (old ++ rest))).kids) c.to c.end → ⊥
-no-piece k front old new rest root c m past t u same chosen pieces path end h there =
-    let text = front ++ (old ++ rest) in
-    let z = text_with front old rest in
+no-piece : (k : CharClasses) (edit : TextReplacement) (root : Tree) (c : Candidate) (m past : ℕ) (t u : Trivia) → bare root ≡ bare (tree k (text_before edit))
+    → Among c (candidates k edit root) → c.is_block ≡ false → c.path ≡ [] → c.end ≡ width (edit.front ++ (edit.old ++ take past edit.rest))
+    → PassesPieces k edit (root_run k (text_before edit)) 0 0 m past t u → StandsAt 0 (trees (tree k (text_before edit)).kids) c.to c.end → ⊥
+no-piece k edit root c m past t u same chosen pieces path end h there =
+    let text = text_before edit in
+    let z = start_before edit in
     let kids = trees (tree k text).kids in
     let cuts = cuts-of-text k text in
-    let o = of-the-root k text (width front) (width (front ++ old)) root c cuts same chosen pieces path in
-    let order = in-order front old in
+    let o = of-the-root k text (width edit.front) (width (edit.front ++ edit.old)) root c cuts same chosen pieces path in
+    let order = in-order edit.front edit.old in
     let own = cuts.own in
-    let s = stretch own.cuts 0 kids (width front) (width (front ++ old)) o.more order in
+    let s = stretch own.cuts 0 kids (width edit.front) (width (edit.front ++ edit.old)) o.more order in
     let to : c.to ≡ s.to = ap (λ (d : Candidate). d.to) o.is in
     let ends_is : c.end ≡ begins 0 kids s.to = ap (λ (d : Candidate). d.end) o.is in
-    let cut = to-cut own.cuts 0 kids (width front) (width (front ++ old)) o.more order (omega (arith, to, ap length there.is, length-append there.left (there.node ∷ there.right), there.here)) in
+    let cut = to-cut own.cuts 0 kids (width edit.front) (width (edit.front ++ edit.old)) o.more order (omega (arith, to, ap length there.is, length-append there.left (there.node ∷ there.right), there.here)) in
     let b = own.each c.end (subst (λ b. is_among b own.cuts ≡ true) (sym ends_is) cut) in
     let go = go-fewer (piece_at k) b.index own.count (true, 0) z (lead k z).state b.few own.go in
-    let e = end_at k 0 z in
-    let byte : c.end ≡ token_after (root_run k text) 0 = end ∙ sym (ap width (take-past front old rest past (0 + (e.taken + gap_of e.state.known)) (omega (arith, ap gap_of h.known, h.ends)))) in
+    let e = first_end 0 (text_run k z) in
+    let byte : c.end ≡ token_after (root_run k text) 0 = end ∙ sym (ap width (take-past edit.front edit.old edit.rest past (0 + (e.taken + gap_of e.state.known)) (omega (arith, ap gap_of h.known, h.ends)))) in
     absurd (omega (arith, byte, b.is, tokens-rise k text (root_run k text) 0 b.index b.some go))
 
 -- so their run ends there
-none-over : (k : CharClasses) (front old new rest : List ℕ) (root : Tree) (c : Candidate) (i n m past : ℕ) (t u : Trivia) → bare root ≡ bare (tree k (front ++ (old ++ rest)))
-    → Among c (candidates k (front ++ (old ++ rest)) (width front) (width (front ++ old)) root) → c.is_block ≡ false → c.path ≡ [] → c.end ≡ width (front ++ (old ++ take past rest))
-    → PassesPieces k front old new rest (root_run k (front ++ (old ++ rest))) i n m past t u → BeginsWell k (front ++ (old ++ rest)) (root_run k (front ++ (old ++ rest))) c i n
-    → i + n ≡ 0 → is_over i n (text_run k (text_with front old rest)) ≡ true
-none-over k front old new rest root c (suc i) n m past t u same chosen pieces path end h well nothing = absurd (omega (arith, nothing))
-none-over k front old new rest root c zero (suc n) m past t u same chosen pieces path end h well nothing = absurd (omega (arith, nothing))
-none-over k front old new rest root c zero zero m past t u same chosen pieces path end h well nothing =
-    true_from_ne_false (is_over 0 0 (text_run k (text_with front old rest))) (λ over. no-piece k front old new rest root c m past t u same chosen pieces path end h (well.next over))
+none-over : (k : CharClasses) (edit : TextReplacement) (root : Tree) (c : Candidate) (i n m past : ℕ) (t u : Trivia) → bare root ≡ bare (tree k (text_before edit))
+    → Among c (candidates k edit root) → c.is_block ≡ false → c.path ≡ [] → c.end ≡ width (edit.front ++ (edit.old ++ take past edit.rest))
+    → PassesPieces k edit (root_run k (text_before edit)) i n m past t u → BeginsWell k (text_before edit) (root_run k (text_before edit)) c i n
+    → i + n ≡ 0 → is_over i n (text_run k (start_before edit)) ≡ true
+none-over k edit root c (suc i) n m past t u same chosen pieces path end h well nothing = absurd (omega (arith, nothing))
+none-over k edit root c zero (suc n) m past t u same chosen pieces path end h well nothing = absurd (omega (arith, nothing))
+none-over k edit root c zero zero m past t u same chosen pieces path end h well nothing =
+    true_from_ne_false (is_over 0 0 (text_run k (start_before edit))) (λ over. no-piece k edit root c m past t u same chosen pieces path end h (well.next over))
 
 -- ---- each case of the test
 
-pub candidate-law : OpensApartLaw → CandidateLaw
-candidate-law apart k front old new rest root c ts same big big_new chosen (of_block s past block there path passes is) =
-    let text = front ++ (old ++ rest) in
-    let one = one-child k text (width front) (width (front ++ old)) root c chosen block in
-    let reaches = reached k text (width front) (width (front ++ old)) root c (in-order front old) same chosen in
-    subst (Worth k front old new rest c) (sym is) (block-worth-law k front old new rest c s past there path one reaches passes big big_new)
-candidate-law apart k front old new rest root c ts same big big_new chosen (of_pieces top i n m past t u pieces path start led end h is) =
-    let well = (begins-well-law apart k front old new rest root top c i n m past t u same chosen pieces (sym path) start led end h).1 in
-    let over = none-over k front old new rest root c i n m past t u same chosen pieces (sym path) end h well in
-    subst (Worth k front old new rest c) (sym is) (root-worth-law k front old new rest c i n m past t u (sym path) start led end h well over big big_new)
-candidate-law apart k front old new rest root c ts same big big_new chosen (of_pieces (inner s levels there name level) i n m past t u pieces path start led end h is) =
-    let well = begins-well-law apart k front old new rest root (inner s levels there name level) c i n m past t u same chosen pieces (sym path) start led end h in
-    subst (Worth k front old new rest c) (sym is) (inner-worth-law k levels front old new rest s there name level c i n m past t u well.0 (sym path) start led end h well.1 big big_new)
+pub candidate-law : CandidateLaw
+candidate-law k edit root c ts same big big_new chosen (of_block s past block there path passes is) =
+    let text = text_before edit in
+    let one = one-child k text (width edit.front) (width (edit.front ++ edit.old)) root c chosen block in
+    let reaches = reached k text (width edit.front) (width (edit.front ++ edit.old)) root c (in-order edit.front edit.old) same chosen in
+    subst (Worth k edit c) (sym is) (block-worth-law k edit c s past there path one reaches passes big big_new)
+candidate-law k edit root c ts same big big_new chosen (of_pieces top i n m past t u pieces path start led end h is) =
+    let well = (begins-well-law k edit root top c i n m past t u same chosen pieces (sym path) start led end h).1 in
+    let over = none-over k edit root c i n m past t u same chosen pieces (sym path) end h well in
+    subst (Worth k edit c) (sym is) (root-worth-law k edit c i n m past t u (sym path) start led end h well over big big_new)
+candidate-law k edit root c ts same big big_new chosen (of_pieces (inner s levels there name level) i n m past t u pieces path start led end h is) =
+    let well = begins-well-law k edit root (inner s levels there name level) c i n m past t u same chosen pieces (sym path) start led end h in
+    subst (Worth k edit c) (sym is) (inner-worth-law k levels edit s there name level c i n m past t u well.0 (sym path) start led end h well.1 big big_new)

@@ -1,5 +1,5 @@
 -- A tree where some pieces of a run are read again: one stretch of the children of the run's node exchanged, of a text's root or of a content block's markup.
-use Rattle.typst_edits.proofs.Cited.{◌≡◌, inl, inr, ℕ, zero, suc, ◌+◌, ◌<◌, ◌≤◌, Bool, true, false, nat_lt, List, [], ◌++◌, length, drop, length-append, append_assoc, Some, refl, ap, sym, ◌∙◌, subst, arith, ◌-◌, if◌then◌else◌, ◌∷◌, take, codes, append-nil, SyntaxKind, Place, moved, Tree, forest, trees, inner_of, made_error, CharClasses, is_end, as_at_hand, Hand, Trivia, Point, point_of, state_of, gap_of, pending, hinted, shaped, after_node, encloses, becomes, flush_trivia, close_if, ◌>>=◌, repeat, Outcome, Meaning, Level, plain, less, standing, joined, hand_of, run, wrapped, repeated, left_to, start_point, entered, asked, taken_node, done, hand_asks_of, flushed_state, Tidy, Backs, sane-run, sane-meaning, sane-plain, ends, markup_turn, ends_block, markup_reading, rules, max_depth, level_at, start_of, tree, whole, parsed, Settles, with_children, together, read_by, standing_by, nodes_after, exchanged, text_with, Among, alter, replaced, onwards_at, text_run, given, made, AllGo, end_of, lead, pieces, end_at, chain, End, first_place, Sequence, turn_of, first_of, first_end, then_of, then_end, then_place, rest_of, same, marked, itself, takes, less-none, inner, look_again, bracket, inner_lead, inner_run, inner_tail, inner_close, content_with, run_at, tail_at, close_at, run_of, body_of, Deep, fill, path_in, Hole, plug, path_of, under, block_with, blocks_of_text, Spot, last_node, unit_at, SameIn, on_both, standing-joined, At, AtPath, kids_of, slice_get, kids_in, kids_of_run, path_to, Run, read_as, top, IsRun, is_text_run, is_block_run, PassesJoint, backs-joined, ChildrenLaw, NodeLaw, BackLaw}
+use Rattle.typst_edits.proofs.Cited.{◌≡◌, inl, inr, ℕ, zero, suc, ◌+◌, ◌<◌, ◌≤◌, Bool, true, false, nat_lt, List, [], ◌++◌, length, drop, length-append, append_assoc, Some, refl, ap, sym, ◌∙◌, subst, arith, ◌-◌, if◌then◌else◌, ◌∷◌, take, codes, append-nil, SyntaxKind, Place, moved, Tree, forest, trees, inner_of, made_error, CharClasses, is_end, as_at_hand, Hand, Trivia, Point, point_of, state_of, gap_of, pending, hinted, shaped, after_node, encloses, becomes, flush_trivia, close_if, ◌>>=◌, repeat, Outcome, Meaning, Level, plain, less, standing, joined, hand_of, run, wrapped, repeated, left_to, start_point, entered, asked, taken_node, done, hand_asks_of, flushed_state, Tidy, Backs, sane-run, sane-meaning, sane-plain, ends, markup_turn, ends_block, markup_reading, rules, max_depth, level_at, start_of, tree, whole, parsed, Settles, with_children, together, read_by, standing_by, nodes_after, exchanged, Among, alter, replaced, onwards_at, text_run, given, made, AllGo, end_of, lead, chain, End, first_place, Sequence, turn_of, first_of, first_end, then_of, then_end, then_place, rest_of, same, marked, itself, takes, less-none, inner, look_again, bracket, inner_lead, inner_run, inner_tail, inner_close, content_with, run_at, tail_at, close_at, run_of, body_of, Deep, fill, path_in, Hole, plug, path_of, under, block_with, blocks_of_text, Spot, last_node, unit_at, SameIn, on_both, standing-joined, At, AtPath, kids_of, slice_get, kids_in, kids_of_run, path_to, Run, read_as, top, IsRun, is_text_run, is_block_run, PassesJoint, backs-joined, ChildrenLaw, NodeLaw, BackLaw, TextReplacement, text_before, text_after, start_before, start_after, replacing}
 use Rattle.typst_language.specs.Point.{is_nil}
 use Rattle.typst_edits.specs.Frame.{inner as block_inner}
 use Rattle.typst_edits.specs.Hole.Deep.{bare}
@@ -123,7 +123,7 @@ module _ (r : Sequence) (taking : Taking r.level r.stops) (known : KnownAt r.poi
 
 -- ---- what is known of any run
 
-pub top-known : (k : CharClasses) (i : ℕ) (z : Place) → AllGo (pieces k i z) → KnownAt (end_at k i z).state
+pub top-known : (k : CharClasses) (i : ℕ) (z : Place) → AllGo (first_of i (text_run k z)) → KnownAt (first_end i (text_run k z)).state
 top-known k i z g = known-made (level_at k max_depth) is_end i (true, 0) z (lead k z).state (leads-of k (text_run k z) (is_text_run z)).known g
 
 -- What follows takes back no more than stands there.
@@ -395,25 +395,25 @@ begun-at k levels text c chosen name left w same some =
     let reads = content-reads k text c chosen levels name left w in
     content-begun (inner k levels) (sane-meaning (rules k) k (suc levels)) (λ b. sane-plain tt) (moved c.at w) (point_of c.start) refl (clear.clear w same) (subst (λ (a : Outcome (Unit {0})). 0 < a.taken) reads some)
 
-pub both-open : (k : CharClasses) (levels : ℕ) (front old new rest : List ℕ) (c : Spot (Unit {0})) (chosen : Among c (blocks_of_text k (front ++ (old ++ rest)))) (name : c.name ≡ block.Content) (level : max_depth - c.fewer ≡ suc levels) (i n m past : ℕ) (t u : Trivia)
-    → PassesJoint k front old new rest (block_inner c levels chosen name level) i n m past t u → BothOpen k levels (text_with front old rest) (text_with front new rest) c
-both-open k levels front old new rest c chosen name level i n m past t u h =
-    let z = text_with front old rest in
-    let w = text_with front new rest in
+pub both-open : (k : CharClasses) (levels : ℕ) (edit : TextReplacement) (c : Spot (Unit {0})) (chosen : Among c (blocks_of_text k (text_before edit))) (name : c.name ≡ block.Content) (level : max_depth - c.fewer ≡ suc levels) (i n m past : ℕ) (t u : Trivia)
+    → PassesJoint k edit (block_inner c levels chosen name level) i n m past t u → BothOpen k levels (start_before edit) (start_after edit) c
+both-open k levels edit c chosen name level i n m past t u h =
+    let z = start_before edit in
+    let w = start_after edit in
     let s = point_of c.start in
-    let passes = (inner-joint-law k levels front old new rest c chosen name level i n m past t u h).passes in
-    let begun = begun-at k levels (front ++ (old ++ rest)) c chosen name level in
+    let passes = (inner-joint-law k levels edit c chosen name level i n m past t u h).passes in
+    let begun = begun-at k levels (text_before edit) c chosen name level in
     record {
       old_opens = opens-by k levels (moved c.at z) s (begun z (same-here c.before z) (omega (arith, passes.starts, passes.ends)));
-      new_opens = opens-by k levels (moved c.at w) s (begun w (before-same c.before front old new rest h.before.before) (omega (arith, passes.starts, passes.shifted)));
+      new_opens = opens-by k levels (moved c.at w) s (begun w (before-same c.before edit h.before.before) (omega (arith, passes.starts, passes.shifted)));
     }
 
 -- a text's tree, by a block's node
-pub tree-by-block : (k : CharClasses) (front old rest : List ℕ) (c : Spot (Unit {0})) → Among c (blocks_of_text k (front ++ (old ++ rest))) → (x : Tree) → c.node ≡ x → tree k (front ++ (old ++ rest)) ≡ inner_of kind.Markup (forest (plug c.hole x))
+pub tree-by-block : (k : CharClasses) (edit : TextReplacement) (c : Spot (Unit {0})) → Among c (blocks_of_text k (text_before edit)) → (x : Tree) → c.node ≡ x → tree k (text_before edit) ≡ inner_of kind.Markup (forest (plug c.hole x))
 unfolding blocks_of_text tree
-tree-by-block k front old rest c chosen x node =
-    let z = text_with front old rest in
-    let o = parsed k max_depth (front ++ (old ++ rest)) in
+tree-by-block k edit c chosen x node =
+    let z = start_before edit in
+    let o = parsed k max_depth (text_before edit) in
     let l = among (Lawful z z o o) c _ chosen (inside-level (rules k) k (inner-ends k) max_depth whole z z (start_point markup_reading)) in
     let made_tree = λ (ts : List Tree). inner_of kind.Markup (forest ts) in
     ap made_tree (ap (λ (a : Outcome (Unit {0})). a.nodes) l.old) ∙ ap (λ a. made_tree (plug c.hole a)) node
@@ -437,33 +437,33 @@ block-at k text c chosen closed lb kids ends node =
     let h = c.hole in
     let x = block_with closed lb kids ends in
     let here : AtPath P (path_of h ++ 1 ∷ []) (inner_of kind.Markup (forest (plug h x))) = at-kids (AtPath P (path_in h.deep ++ 1 ∷ [])) h.left (fill h.deep x) h.right (at-fill P (1 ∷ []) h.deep x (trees-of kids)) in
-    subst (λ ts. AtPath (λ u. kids_of u ≡ ts) (path_of h ++ 1 ∷ []) (tree k text)) (sym (ap kids_in node ∙ trees-of kids)) (subst (AtPath P (path_of h ++ 1 ∷ [])) (sym (tree-by-block k [] [] text c chosen x node)) here)
+    subst (λ ts. AtPath (λ u. kids_of u ≡ ts) (path_of h ++ 1 ∷ []) (tree k text)) (sym (ap kids_in node ∙ trees-of kids)) (subst (AtPath P (path_of h ++ 1 ∷ [])) (sym (tree-by-block k (replacing [] [] [] text) c chosen x node)) here)
 
 -- What the trees of both texts are: at the run's node one stretch of its children is exchanged.
-record Exchange (k : CharClasses) (front old new rest : List ℕ) (r : Run k (front ++ (old ++ rest))) (i n m : ℕ) (t u : Trivia) : Type 0 where
+record Exchange (k : CharClasses) (edit : TextReplacement) (r : Run k (text_before edit)) (i n m : ℕ) (t u : Trivia) : Type 0 where
   behind : List Tree
-  children : (let q = read_as r (text_with front old rest) in kids_of_run r ≡ standing_by i n q ++ (nodes_after i n t q ++ behind))
-  tree_now : (let q = read_as r (text_with front old rest) in
+  children : (let q = read_as r (start_before edit) in kids_of_run r ≡ standing_by i n q ++ (nodes_after i n t q ++ behind))
+  tree_now : (let q = read_as r (start_before edit) in
       let first = length (standing_by i n q) in
-      tree k (front ++ (new ++ rest)) ≡ with_children (path_to r) first (first + length (nodes_after i n t q)) (nodes_after i m u (read_as r (text_with front new rest))) (tree k (front ++ (old ++ rest))))
-  at : AtPath (λ u. kids_of u ≡ kids_of_run r) (path_to r) (tree k (front ++ (old ++ rest)))
+      tree k (text_after edit) ≡ with_children (path_to r) first (first + length (nodes_after i n t q)) (nodes_after i m u (read_as r (start_after edit))) (tree k (text_before edit)))
+  at : AtPath (λ u. kids_of u ≡ kids_of_run r) (path_to r) (tree k (text_before edit))
 
 pub node-law : NodeLaw
 unfolding blocks_of_text
-node-law k levels front old new rest c chosen name level i n m past t u h some more same_back =
-    let z = text_with front old rest in
-    let w = text_with front new rest in
+node-law k levels edit c chosen name level i n m past t u h some more same_back =
+    let z = start_before edit in
+    let w = start_after edit in
     let s = point_of c.start in
     let y = moved c.at z in
     let v = moved c.at w in
-    let kept = inner-joint-law k levels front old new rest c chosen name level i n m past t u h in
-    let firsts = first-same k levels front old new rest c i h.before in
+    let kept = inner-joint-law k levels edit c chosen name level i n m past t u h in
+    let firsts = first-same k levels edit c i h.before in
     let r = run_at k levels c z in
     let q = run_at k levels c w in
     let new_first : AllGo (first_of i q) = subst (λ os. AllGo os) (sym firsts.first) h.first_go in
-    let o = parsed k max_depth (front ++ (old ++ rest)) in
+    let o = parsed k max_depth (text_before edit) in
     let l = among (Lawful z z o o) c _ chosen (inside-level (rules k) k (inner-ends k) max_depth whole z z (start_point markup_reading)) in
-    let opens = both-open k levels front old new rest c chosen name level i n m past t u h in
+    let opens = both-open k levels edit c chosen name level i n m past t u h in
     let opens_old = opens.old_opens in
     let lb = opens_old.node in
     let lb_is : opens.new_opens.node ≡ lb = ap last_node (sym opens.new_opens.nodes ∙ ap (λ (a : Outcome (Unit {0})). a.nodes) firsts.opened ∙ opens_old.nodes) in
@@ -498,26 +498,26 @@ node-law k levels front old new rest c chosen name level i n m past t u h some m
       node_now = ap last_node now;
     }
 
-exchange : (k : CharClasses) (front old new rest : List ℕ) (r : Run k (front ++ (old ++ rest))) (i n m past : ℕ) (t u : Trivia) → PassesJoint k front old new rest r i n m past t u
-    → Settles n (onwards_at i n (read_as r (text_with front old rest))) → Settles m (onwards_at i m (read_as r (text_with front new rest)))
-    → (read_by i m (read_as r (text_with front new rest))).back ≡ (read_by i n (read_as r (text_with front old rest))).back → Exchange k front old new rest r i n m t u
+exchange : (k : CharClasses) (edit : TextReplacement) (r : Run k (text_before edit)) (i n m past : ℕ) (t u : Trivia) → PassesJoint k edit r i n m past t u
+    → Settles n (onwards_at i n (read_as r (start_before edit))) → Settles m (onwards_at i m (read_as r (start_after edit)))
+    → (read_by i m (read_as r (start_after edit))).back ≡ (read_by i n (read_as r (start_before edit))).back → Exchange k edit r i n m t u
 unfolding blocks_of_text tree
-exchange k front old new rest top i n m past t u h some more same =
-    let z = text_with front old rest in
-    let w = text_with front new rest in
+exchange k edit top i n m past t u h some more same =
+    let z = start_before edit in
+    let w = start_after edit in
     let q = text_run k z in
     let v = text_run k w in
-    let x = joined-behind k front old new rest top i n m past t u h in
-    let first_now = first-now k front old new rest top i h.before h.first_go in
+    let x = joined-behind k edit top i n m past t u h in
+    let first_now = first-now k edit top i h.before h.first_go in
     let before = standing_by i n q in
     let olds = nodes_after i n t q in
     let news = nodes_after i m u v in
     let made_tree = λ (us : List Tree). inner_of kind.Markup (forest us) in
-    let was : tree k (front ++ (old ++ rest)) ≡ made_tree (before ++ (olds ++ x.rest)) =
-    tree-is k (front ++ (old ++ rest)) i n h.first_go h.old_go ∙ ap made_tree (standing-is k q (is_text_run z) i n t x.rest some h.first_go h.old_go x.hints x.nodes) in
-    let now : tree k (front ++ (new ++ rest)) ≡ made_tree (before ++ (news ++ x.rest)) =
-    tree-is k (front ++ (new ++ rest)) i m first_now h.new_go ∙ ap made_tree (standing-is k v (is_text_run w) i m u x.rest more first_now h.new_go x.hints_now x.nodes_now)
-    ∙ ap (λ b. made_tree (less b (given (first_of i v) []) ++ (news ++ x.rest))) same ∙ ap (λ os. made_tree (less (read_by i n q).back (given os []) ++ (news ++ x.rest))) (same-start k front old new rest top i h.before).first in
+    let was : tree k (text_before edit) ≡ made_tree (before ++ (olds ++ x.rest)) =
+    tree-is k (text_before edit) i n h.first_go h.old_go ∙ ap made_tree (standing-is k q (is_text_run z) i n t x.rest some h.first_go h.old_go x.hints x.nodes) in
+    let now : tree k (text_after edit) ≡ made_tree (before ++ (news ++ x.rest)) =
+    tree-is k (text_after edit) i m first_now h.new_go ∙ ap made_tree (standing-is k v (is_text_run w) i m u x.rest more first_now h.new_go x.hints_now x.nodes_now)
+    ∙ ap (λ b. made_tree (less b (given (first_of i v) []) ++ (news ++ x.rest))) same ∙ ap (λ os. made_tree (less (read_by i n q).back (given os []) ++ (news ++ x.rest))) (same-start k edit top i h.before).first in
     let first = length before in
     record {
       behind = x.rest;
@@ -525,12 +525,12 @@ exchange k front old new rest top i n m past t u h some more same =
       tree_now = now ∙ ap made_tree (sym (ap (exchanged first (first + length olds) news) (trees-of (before ++ (olds ++ x.rest))) ∙ exchanged-is before olds news x.rest)) ∙ ap (with_children [] first (first + length olds) news) (sym was);
       at = refl;
     }
-exchange k front old new rest (block_inner c levels chosen name left) i n m past t u h some more same =
-    let z = text_with front old rest in
-    let w = text_with front new rest in
-    let x = node-law k levels front old new rest c chosen name left i n m past t u h some more same in
-    let kept = (inner-joint-law k levels front old new rest c chosen name left i n m past t u h).kept in
-    let o = parsed k max_depth (front ++ (old ++ rest)) in
+exchange k edit (block_inner c levels chosen name left) i n m past t u h some more same =
+    let z = start_before edit in
+    let w = start_after edit in
+    let x = node-law k levels edit c chosen name left i n m past t u h some more same in
+    let kept = (inner-joint-law k levels edit c chosen name left i n m past t u h).kept in
+    let o = parsed k max_depth (text_before edit) in
     let l = among (Lawful z z o o) c _ chosen (inside-level (rules k) k (inner-ends k) max_depth whole z z (start_point markup_reading)) in
     let before = standing_by i n (run_at k levels c z) in
     let olds = nodes_after i n t (run_at k levels c z) in
@@ -548,7 +548,7 @@ exchange k front old new rest (block_inner c levels chosen name left) i n m past
       children = ap kids_in x.node ∙ trees-of kids;
       tree_now = kept.tree ∙ ap (λ ts. made_tree (replaced (path_of c.hole) new_node ts)) nodes_old ∙ ap made_tree (replaced-plug c.hole new_node c.node)
           ∙ ap (λ a. made_tree (plug c.hole a)) x.node_now ∙ sym exchanged_is ∙ ap (with_children path first (first + length olds) news) (sym (ap made_tree nodes_old ∙ ap (λ a. made_tree (plug c.hole a)) x.node));
-      at = block-at k (front ++ (old ++ rest)) c chosen x.closed x.bracket kids x.ends x.node;
+      at = block-at k (text_before edit) c chosen x.closed x.bracket kids x.ends x.node;
     }
 
 -- ---- pieces give the trivia before them first, so the exchange of children is the same without these
@@ -614,17 +614,17 @@ with-same [] i j a b ns us kids e t h = ap (λ ts. record { head = t.head; kids 
 with-same (n ∷ path) i j a b ns us kids e t h = ap (λ ts. record { head = t.head; kids = forest ts }) (alter-there (AtPath (λ u. kids_of u ≡ kids) path) (with_children path i j ns) (with_children path a b us) n (trees t.kids) (with-same path i j a b ns us kids e) h)
 
 pub children-law : ChildrenLaw
-children-law k front old new rest r i n m past t u h some more same =
-    let z = text_with front old rest in
-    let w = text_with front new rest in
+children-law k edit r i n m past t u h some more same =
+    let z = start_before edit in
+    let w = start_after edit in
     let q = read_as r z in
     let v = read_as r w in
-    let x = exchange k front old new rest r i n m past t u h some more same in
+    let x = exchange k edit r i n m past t u h some more same in
     let was = leads-of k q (is-run r z) in
     let now = leads-of k v (is-run r w) in
-    let trivia : 0 < i → pending (first_end i v).state.known ≡ pending (first_end i q).state.known = λ some. ap (λ (e : End (Bool × ℕ)). pending e.state.known) (end-by-pieces i v q some (same-start k front old new rest r i h.before).first) in
+    let trivia : 0 < i → pending (first_end i v).state.known ≡ pending (first_end i q).state.known = λ some. ap (λ (e : End (Bool × ℕ)). pending e.state.known) (end-by-pieces i v q some (same-start k edit r i h.before).first) in
     let olds = leads-run q was.taking was.known i n (onwards_at i n q).back t (behind-back k q (is-run r z) i n) h.first_go h.old_go h.meets.known in
-    let first_now = first-now k front old new rest r i h.before h.first_go in
+    let first_now = first-now k edit r i h.before h.first_go in
     let news = leads-run v now.taking now.known i m (onwards_at i m v).back u (behind-back k v (is-run r w) i m) first_now h.new_go h.meets.known_now in
     record {
       behind = x.behind;
@@ -632,5 +632,5 @@ children-law k front old new rest r i n m past t u h some more same =
       tree_now = x.tree_now;
       trivia_same = λ some. ap length (trivia some);
       after_trivia = λ some. x.tree_now ∙ with-same (path_to r) _ _ _ _ _ _ (kids_of_run r) (same-exchange (standing_by i n q) (pending (first_end i q).state.known) (nodes_after i n t q) (nodes_after i m u v) x.behind (kids_of_run r) x.children olds
-          (subst (λ ts. StartsWith ts (nodes_after i m u v)) (trivia some) news)) (tree k (front ++ (old ++ rest))) x.at;
+          (subst (λ ts. StartsWith ts (nodes_after i m u v)) (trivia some) news)) (tree k (text_before edit)) x.at;
     }

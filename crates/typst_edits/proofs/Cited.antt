@@ -23,7 +23,7 @@ pub use Rattle.typst_candidates.specs.Records.{AllBegin, AllEnd, AllFit, IsRisin
 pub use Rattle.typst_candidates.specs.Units.{after_first, cuts_in, is_closing, opens_content, starts, top_cuts, up_to_end}
 pub use Rattle.typst_candidates.specs.declared.entry.Entry.{Entry}
 pub use Rattle.typst_candidates.specs.declared.entry.EntryKind.{EntryKind}
-pub use Rattle.typst_edits.specs.Answer.{CandidateLaw, Refused, Worth, candidates, file_of, numbered_in}
+pub use Rattle.typst_edits.specs.Answer.{CandidateLaw, Refused, Worth, candidates, candidates_between, file_of, numbered_in}
 pub use Rattle.typst_edits.specs.Answer.IsAnswer.{part}
 pub use Rattle.typst_edits.specs.BlockRuns.{EndsBefore, InnerLaw, body_of, bracket, close_at, content_of, content_with, inner, inner_close, inner_lead, inner_run, inner_tail, left_at, look_again, look_first, opened_at, run_at, run_of, tail_at}
 pub use Rattle.typst_edits.specs.BlockSplice.{block_log, closing}
@@ -43,9 +43,8 @@ pub use Rattle.typst_edits.specs.InOrder.{InOrderLaw}
 pub use Rattle.typst_edits.specs.InnerBytes.{inner_both, inner_end}
 pub use Rattle.typst_edits.specs.InnerJoint.{IsRun, is_block_run, is_text_run, left_past, onwards_past}
 pub use Rattle.typst_edits.specs.InnerPiecesTest.{InnerEntries, InnerEntriesLaw, InnerOnceLaw, InnerPart, InnerPartLaw, InnerTestLaw, InnerUnitsLaw, level_in}
-pub use Rattle.typst_edits.specs.InnerSplice.{AroundSpliceLaw, InnerSpliceLaw, end_note_in, looks_next, note_at, noted_at, own_of, pieces_log_in}
 pub use Rattle.typst_edits.specs.Joins.{Around, Encloses, PassesJoint}
-pub use Rattle.typst_edits.specs.Joint.{Exchanged, Meets, is_over_at, minds, onwards, passed, place_from, text_run}
+pub use Rattle.typst_edits.specs.Joint.{Exchanged, Meets, is_over_at, minds, onwards, passed}
 pub use Rattle.typst_edits.specs.JointBytes.{JointDecisionLaw, asked_past}
 pub use Rattle.typst_edits.specs.KeptNodes.{StandsBetween}
 pub use Rattle.typst_edits.specs.Laws.{block_at}
@@ -69,16 +68,17 @@ pub use Rattle.typst_edits.specs.Rising.{Rising}
 pub use Rattle.typst_edits.specs.RunBytes.{PieceNote, RunDecisionLaw, both_end}
 pub use Rattle.typst_edits.specs.RunNumbers.{InnerNumbers, InnerNumbersLaw, RunNumbers, RunNumbersLaw, cut_in, cut_of, number_in, number_of}
 pub use Rattle.typst_edits.specs.RunPieces.{BeginsWell, StandsAt, block_run, root_run}
-pub use Rattle.typst_edits.specs.RunSplice.{OverAt, end_note, pieces_log}
+pub use Rattle.typst_edits.specs.RunSplice.{AroundSpliceLaw, EndsBare, end_note, levels_of, looks_next, note_at, noted_at, number_at, own_of, pieces_log}
 pub use Rattle.typst_edits.specs.RunTest.{BeginsAt, FoundInner, FoundRun, InnerRunTestLaw, IsLast, PassesRead, RunTestLaw, SaysPiece, nodes_by, notes_by, reading_on}
 pub use Rattle.typst_edits.specs.RunTrees.{given, run_mark}
-pub use Rattle.typst_edits.specs.Runs.{AllGo, End, after_pieces, asks_of, chain, end_at, end_from, end_of, lead, made, piece_at, pieces, pieces_from, rest_from, start, tail, whole_of}
-pub use Rattle.typst_edits.specs.Sequence.{Sequence, first_end, first_of, nodes_after, onwards_at, read_by, rest_of, standing_by, then_end, then_of, then_place, together, trivia_before, turn_of}
+pub use Rattle.typst_edits.specs.Runs.{lead, piece_at, start, tail, text_run, whole_of}
+pub use Rattle.typst_edits.specs.Sequence.{AllGo, End, Sequence, asks_of, chain, end_of, first_end, first_of, made, nodes_after, onwards_at, read_by, rest_of, standing_by, then_end, then_of, then_place, together, trivia_before, turn_of}
 pub use Rattle.typst_edits.specs.Served.{MeetsOn, PassesOn, Served, reading_of}
 pub use Rattle.typst_edits.specs.Splice.{AllNotedBy, Noting, SpliceLaw, entries_from, notes_in, noting, token_start}
 pub use Rattle.typst_edits.specs.Spot.{Fits, Spot, after_spot, around, block_head, closed_spot, ended, here_spot, kind_of, last_node, lower, lowered, rehole, sunk_spot, then_spot, unit_at, valued}
 pub use Rattle.typst_edits.specs.Standing.{IsOf, StandingLaw, Stems, UnnotedLaw, block_seconds, from_second, from_unit, is_block_head, level_seconds, place_of}
 unfoldable pub use Rattle.typst_edits.specs.Standing.{call_seconds, seconds, seconds_of_text}
+pub use Rattle.typst_edits.specs.TextReplacement.{TextReplacement, replacing, start_after, start_before, text_after, text_before}
 pub use Rattle.typst_grammar.proofs.Fine.{and-both, change_by, is_ordinary, making_by, shape_by}
 pub use Rattle.typst_grammar.proofs.FineRuns.{PlainBy, after-shape-known, gives-all, gives-run, if_by, op_by, plain-weaker}
 pub use Rattle.typst_grammar.proofs.Firsts.{moves-inside, some-ahead}

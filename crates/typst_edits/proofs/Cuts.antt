@@ -1,5 +1,5 @@
 -- After more pieces of a run the next token begins further on.
-use Rattle.typst_edits.proofs.Cited.{◌≡◌, ℕ, suc, ◌+◌, ◌<◌, ◌≤◌, Bool, true, List, length, take, ap, sym, arith, ◌-◌, false, ◌&&◌, ◌||◌, ◌==◌, eq-eqb, [], ◌∷◌, ◌++◌, map, append_assoc, Some, refl, ◌∙◌, subst, both_ways, CharClasses, Place, moved, width, gap_of, point_of, Point, peek, Meaning, run, sane-at, ahead-left, moved-sum, markup_turn, rules, max_depth, start_of, log, bracket, run_at, opened_at, inner_end, text_run, token_byte, piece_at, lead, cut_after, of_level, Numbered, SaysOf, AllGo, End, end_at, start, made, end_of, turn_of, first_of, first_end, Spot, eqb-true, eqb-false, and_right, Block, Mark, Note, opens_content, starts, up_to_end, after_first, cuts_in, is_closing, is_among, Among, Every, blocks_of_text, goes, OpensApartLaw, listed, if-true, if-false, Run, top, read_as, token_after, root_run, IsRun, is_text_run, is_block_run, Sequence, CutsLaw, InnerCutsLaw, or_right, lt_of_le-ne}
+use Rattle.typst_edits.proofs.Cited.{◌≡◌, ℕ, suc, ◌+◌, ◌<◌, ◌≤◌, Bool, true, List, length, take, ap, sym, arith, ◌-◌, false, ◌&&◌, ◌||◌, ◌==◌, eq-eqb, [], ◌∷◌, ◌++◌, map, append_assoc, Some, refl, ◌∙◌, subst, both_ways, CharClasses, Place, moved, width, gap_of, point_of, Point, peek, Meaning, run, sane-at, ahead-left, moved-sum, markup_turn, rules, max_depth, start_of, log, bracket, run_at, opened_at, inner_end, text_run, token_byte, piece_at, lead, cut_after, of_level, Numbered, SaysOf, AllGo, End, start, made, end_of, turn_of, first_of, first_end, Spot, eqb-true, eqb-false, and_right, Block, Mark, Note, opens_content, starts, up_to_end, after_first, cuts_in, is_closing, is_among, Among, Every, blocks_of_text, goes, listed, if-true, if-false, Run, top, read_as, token_after, root_run, IsRun, is_text_run, is_block_run, Sequence, CutsLaw, InnerCutsLaw, or_right, lt_of_le-ne}
 use Rattle.typst_candidates.specs.Units.{is_piece}
 use Rattle.typst_edits.proofs.BlockRuns.{within, sane as in-sane}
 use Rattle.typst_edits.proofs.Joint.{leads-of}
@@ -11,6 +11,7 @@ pub use Rattle.typst_grammar.proofs.Fine.{and-both as both-on}
 use Rattle.typst_language.specs.declared.calls.Block.TheVariants as block
 use Rattle.typst_language.specs.declared.calls.Mark.TheVariants as mark
 use Rattle.typst_edits.proofs.Widths.{take-longer, take-more}
+use Rattle.typst_edits.proofs.OpensApart.{opens-apart-law}
 
 pub cut-token : (i : ℕ) (e : End (Bool × ℕ)) → 0 < i → cut_after i e ≡ e.taken + gap_of e.state.known
 cut-token i e l = grind arith
@@ -23,7 +24,7 @@ cut-by : (text : List ℕ) (i j : ℕ) (e f : End (Bool × ℕ)) → i < j → t
 cut-by text i j e f l h = grind (arith, take-more, cut-most, cut-token)
 
 -- Pieces end within the text, with their trivia.
-pub ends-within : (k : CharClasses) (text : List ℕ) (i : ℕ) → (let e = end_at k i (start_of text) in e.taken + gap_of e.state.known ≤ length text)
+pub ends-within : (k : CharClasses) (text : List ℕ) (i : ℕ) → (let e = first_end i (text_run k (start_of text)) in e.taken + gap_of e.state.known ≤ length text)
 unfolding run
 ends-within k text i =
     let z = start_of text in
@@ -60,7 +61,7 @@ tokens-rise k text (block_inner c levels a n left) i j l g = let z = start_of te
 
 pub cuts-law : CutsLaw
 cuts-law k text i j l g =
-    let e = λ (m : ℕ). end_at k m (start_of text) in
+    let e = λ (m : ℕ). first_end m (text_run k (start_of text)) in
     let same : (m : ℕ) → token_after (root_run k text) m ≡ token_byte text (e m) = λ m. ap (λ d. width (take d text)) (omega arith) in
     cut-by text i j (e i) (e j) l (omega (arith, tokens-rise k text top i j l g, same i, same j))
 
@@ -84,14 +85,14 @@ pub cuts-past : (at : ℕ) (earlier rest : List Note) → Every (λ n. opens_at 
 cuts-past at [] rest h = refl
 cuts-past at (n ∷ earlier) rest h = if-false (opens_at at n) (after_first (starts n.levels (up_to_end n.levels (earlier ++ rest)))) (cuts_in at (earlier ++ rest)) h.0 ∙ cuts-past at earlier rest h.1
 
-module _ (apart : OpensApartLaw) (k : CharClasses) (text : List ℕ) (opens : Note) (own : Block) (is_own : opens.mark ≡ mark.Opens own) (later : List Note) where
+module _ (k : CharClasses) (text : List ℕ) (opens : Note) (own : Block) (is_own : opens.mark ≡ mark.Opens own) (later : List Note) where
   pub opens-before : (done todo : List Note) → listed (log k text).notes ≡ done ++ (todo ++ opens ∷ later) → Every (λ n. opens_at opens.start n ≡ false) todo
   opens-before done [] e = tt
   opens-before done (n ∷ todo) e =
       (by-mark n.mark refl, opens-before (done ++ n ∷ []) todo (e ∙ sym (append_assoc done (n ∷ []) (todo ++ opens ∷ later))))
     where
       by-mark : (m : Mark) → n.mark ≡ m → opens_at opens.start n ≡ false
-      by-mark m f = grind arith
+      by-mark m f = grind (arith, opens-apart-law)
 
 -- ---- the starts of its pieces
 
@@ -184,14 +185,14 @@ pub record BlockCuts (k : CharClasses) (levels : ℕ) (text : List ℕ) (c : Spo
   pub over : (let r = run_at k levels c (start_of text) in let e = first_end count r in goes (turn_of r e.value (moved e.taken r.place) e.state) ≡ false)
   pub all : (j : ℕ) → AllGo (first_of j (run_at k levels c (start_of text))) → j ≤ count
 
-pub cuts-of-block : OpensApartLaw → (k : CharClasses) (levels : ℕ) (text : List ℕ) (c : Spot (Unit {0})) → Among c (blocks_of_text k text) → c.name ≡ block.Content → max_depth - c.fewer ≡ suc levels → BlockCuts k levels text c (width (take c.at text))
-cuts-of-block apart k levels text c chosen name left =
+pub cuts-of-block : (k : CharClasses) (levels : ℕ) (text : List ℕ) (c : Spot (Unit {0})) → Among c (blocks_of_text k text) → c.name ≡ block.Content → max_depth - c.fewer ≡ suc levels → BlockCuts k levels text c (width (take c.at text))
+cuts-of-block k levels text c chosen name left =
     let n = numbered-inner-law k levels text c chosen name left in
     let e = λ (i : ℕ). inner_end k levels i c (start_of text) in
     let more = n.inner ++ n.closes ∷ n.later in
     let notes : listed (log k text).notes ≡ n.earlier ++ n.opens ∷ more = ap listed n.notes in
     let at = n.opens.start in
-    let none_before = opens-before apart k text n.opens c.name n.name more [] n.earlier notes in
+    let none_before = opens-before k text n.opens c.name n.name more [] n.earlier notes in
     let here : opens_at at n.opens ≡ true = both-on (opens_content n.opens.mark) (at == at) (ap opens_content (n.name ∙ ap mark.Opens name)) (eq-eqb at at refl) in
     let own : cuts_in at (n.opens ∷ more) ≡ after_first (starts n.opens.levels (up_to_end n.opens.levels more)) = if-true (opens_at at n.opens) _ _ here in
     let level : after_first (starts n.opens.levels (up_to_end n.opens.levels more)) ≡ after_first (starts (suc levels) (up_to_end (suc levels) more)) = ap (λ l. after_first (starts l (up_to_end l more))) n.levels_there in

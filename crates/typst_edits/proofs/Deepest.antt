@@ -1,5 +1,5 @@
 -- A content block in which no level is left notes nothing; so if notes say that pieces stand in a block, a level is left there.
-use Rattle.typst_edits.proofs.Cited.{◌≡◌, subst, ℕ, ◌-◌, ◌==◌, eq-eqb, true, false, ◌&&◌, List, [], ◌∷◌, ◌++◌, take, Some, None, refl, ap, sym, ◌∙◌, arith, is_deepest, ◌>>=◌, close_if, encloses, same, itself, flush_trivia, nil_from_length, Place, moved, CharClasses, width, Mark, too_deep, meaning_of, Outcome, Level, blockless, start_point, run, Point, point_of, peek, node, node_with_trivia, Parser, ◌>>◌, takes, gives, does, scoped, opens_content, starts, up_to_end, after_first, cuts_in, is_closing, ends_block, markup_is_empty, markup_run, content_block, markup_reading, rules, max_depth, start_of, whole, log, Guarded, guarded-deep, Among, blocks_of_text, block_at, Named, OpensApartLaw, listed, notes_in, Spot, ended, unit_at, none-some, if-true, guarded-close, guarded-node}
+use Rattle.typst_edits.proofs.Cited.{◌≡◌, subst, ℕ, ◌-◌, ◌==◌, eq-eqb, true, false, ◌&&◌, List, [], ◌∷◌, ◌++◌, take, Some, None, refl, ap, sym, ◌∙◌, arith, is_deepest, ◌>>=◌, close_if, encloses, same, itself, flush_trivia, nil_from_length, Place, moved, CharClasses, width, Mark, too_deep, meaning_of, Outcome, Level, blockless, start_point, run, Point, point_of, peek, node, node_with_trivia, Parser, ◌>>◌, takes, gives, does, scoped, opens_content, starts, up_to_end, after_first, cuts_in, is_closing, ends_block, markup_is_empty, markup_run, content_block, markup_reading, rules, max_depth, start_of, whole, log, Guarded, guarded-deep, Among, blocks_of_text, block_at, Named, listed, notes_in, Spot, ended, unit_at, none-some, if-true, guarded-close, guarded-node}
 use Rattle.typst_kinds.specs.declared.kind.SyntaxKind.TheVariants as kind
 use Rattle.typst_language.specs.declared.calls.Block.TheVariants as block
 use Rattle.typst_language.specs.declared.calls.Mark.TheVariants as mark
@@ -55,15 +55,15 @@ none-in k text s there name none =
     ap (λ m. m y p) named.reads ∙ ap (λ v. ended (block_at k v s.name y p)) none ∙ ap (λ x. ended (block_at k 0 x y p)) name in
     ap (λ (o : Outcome (Unit {0})). notes_in o.asks) reads ∙ count-none (block_at k 0 block.Content y p).asks (silent-block k y p)
 
-pub some-level : OpensApartLaw → (k : CharClasses) (text : List ℕ) (s : Spot (Unit {0})) (cuts : List ℕ) → Among s (blocks_of_text k text) → s.name ≡ block.Content → cuts_in (width (take s.at text)) (listed (log k text).notes) ≡ Some cuts → max_depth - s.fewer ≡ 0 → ⊥
-some-level apart k text s cuts there name have none =
+pub some-level : (k : CharClasses) (text : List ℕ) (s : Spot (Unit {0})) (cuts : List ℕ) → Among s (blocks_of_text k text) → s.name ≡ block.Content → cuts_in (width (take s.at text)) (listed (log k text).notes) ≡ Some cuts → max_depth - s.fewer ≡ 0 → ⊥
+some-level k text s cuts there name have none =
     let n = nested-block-law k text s there in
     let empty : n.inner ≡ [] = nil_from_length n.inner (omega (arith, none-in k text s there name none, n.long)) in
     let rest = n.inner ++ n.closes ∷ n.later in
     let notes : listed (log k text).notes ≡ n.earlier ++ n.opens ∷ rest = ap listed n.notes in
     let at = n.opens.start in
     let lv = n.opens.levels in
-    let before = opens-before apart k text n.opens s.name n.name rest [] n.earlier notes in
+    let before = opens-before k text n.opens s.name n.name rest [] n.earlier notes in
     let here : opens_at at n.opens ≡ true = both-on (opens_content n.opens.mark) (at == at) (ap opens_content (n.name ∙ ap mark.Opens name)) (eq-eqb at at refl) in
     let own : cuts_in at (n.opens ∷ rest) ≡ after_first (starts lv (up_to_end lv rest)) = if-true (opens_at at n.opens) _ _ here in
     let same_level : n.closes.levels ≡ lv = n.levels_end ∙ sym n.levels_there in

@@ -1,5 +1,5 @@
 -- A stretch of a text replaced: what ends before it and what begins after it shows the same.
-use Rattle.typst_edits.proofs.Cited.{◌≡◌, ℕ, zero, suc, ◌+◌, ◌≤◌, List, [], ◌∷◌, ◌++◌, length, take, Some, refl, ap, sym, ◌∙◌, arith, subst, Tree, forest, moved, Look, Ask, SameIn, looked, marked, Outcome, moved-sum, Deep, fill, Hole, plug, path_in, path_of, under, Spot, Fits, unit_at, Among, text_with, AllEndBy, AllBeginIn, Passes, alter, replaced, put, this, that, Edited}
+use Rattle.typst_edits.proofs.Cited.{◌≡◌, ℕ, zero, suc, ◌+◌, ◌≤◌, List, [], ◌∷◌, ◌++◌, length, take, Some, refl, ap, sym, ◌∙◌, arith, subst, Tree, forest, moved, Look, Ask, SameIn, looked, marked, Outcome, moved-sum, Deep, fill, Hole, plug, path_in, path_of, under, Spot, Fits, unit_at, Among, text_with, AllEndBy, AllBeginIn, Passes, alter, replaced, put, this, that, Edited, TextReplacement, start_before, start_after}
 use Rattle.typst_tokens.specs.Reader.{Agree, marked as ended_by_mark}
 use Rattle.typst_edits.specs.Hole.Deep.{bare}
 pub use Rattle.typst_candidates.proofs.Edges.{trees_forest as trees-of}
@@ -18,10 +18,10 @@ same-before zero look before front ys zs h = record { before = refl; ahead = tak
 same-before (suc n) look before [] ys zs h = absurd (omega arith)
 same-before (suc n) look before (c ∷ front) ys zs h = same-before n look (c ∷ before) front ys zs (omega arith)
 
-pub before-same : (asks : List Ask) (front old new rest : List ℕ) → AllEndBy (length front) asks → SameIn asks (text_with front old rest) (text_with front new rest)
-before-same [] front old new rest h = tt
-before-same (looked at look ∷ asks) front old new rest h = (same-before at look [] front (old ++ rest) (new ++ rest) h.0, before-same asks front old new rest h.1)
-before-same (marked at gap fewer mark s ∷ asks) front old new rest h = (tt, before-same asks front old new rest h)
+pub before-same : (asks : List Ask) (edit : TextReplacement) → AllEndBy (length edit.front) asks → SameIn asks (start_before edit) (start_after edit)
+before-same [] edit h = tt
+before-same (looked at look ∷ asks) edit h = (same-before at look [] edit.front (edit.old ++ edit.rest) (edit.new ++ edit.rest) h.0, before-same asks edit h.1)
+before-same (marked at gap fewer mark s ∷ asks) edit h = (tt, before-same asks edit h)
 
 -- ---- after it
 
@@ -54,11 +54,11 @@ pub past-is : (d : ℕ) (front mid rest : List ℕ) → moved ((length front + l
 past-is d front mid rest =
     moved-sum (length front + length mid) d _ ∙ ap (moved d) (moved-sum (length front) (length mid) _ ∙ ap (moved (length mid)) (moved-over front (mid ++ rest) []) ∙ moved-over mid rest (onto front []))
 
-pub after-same : (asks : List Ask) (d m k : ℕ) (front old new rest : List ℕ) → m ≡ (length front + length old) + d → k ≡ (length front + length new) + d → AllBeginIn d rest asks
-    → SameIn asks (moved m (text_with front old rest)) (moved k (text_with front new rest))
-after-same asks d m k front old new rest e f h =
-    same_in-at asks _ _ _ _ (ap (λ n. moved n (text_with front old rest)) e ∙ past-is d front old rest) (ap (λ n. moved n (text_with front new rest)) f ∙ past-is d front new rest)
-    (after-looks asks d (onto old (onto front [])) (onto new (onto front [])) rest h)
+pub after-same : (asks : List Ask) (d m k : ℕ) (edit : TextReplacement) → m ≡ (length edit.front + length edit.old) + d → k ≡ (length edit.front + length edit.new) + d → AllBeginIn d edit.rest asks
+    → SameIn asks (moved m (start_before edit)) (moved k (start_after edit))
+after-same asks d m k edit e f h =
+    same_in-at asks _ _ _ _ (ap (λ n. moved n (start_before edit)) e ∙ past-is d edit.front edit.old edit.rest) (ap (λ n. moved n (start_after edit)) f ∙ past-is d edit.front edit.new edit.rest)
+    (after-looks asks d (onto edit.old (onto edit.front [])) (onto edit.new (onto edit.front [])) edit.rest h)
 
 -- ---- the path
 
@@ -87,22 +87,22 @@ pub among : {X : Type 0} (P : X → Type 0) (x : X) (xs : List X) → Among x xs
 among P x ys (this xs) h = h.0
 among P x ys (that y xs i) h = among P x xs i h.1
 
-pub edited : {A : Type 0} (front old new rest : List ℕ) (o n : Outcome A) (cs : List (Spot A)) → Every (Lawful (text_with front old rest) (text_with front new rest) o n) cs
-    → (c : Spot A) (past : ℕ) (x : Tree) → Among c cs → Passes front old new rest c past → Fits c (unit_at c (text_with front new rest)) x → Edited o n c (unit_at c (text_with front old rest)) (unit_at c (text_with front new rest)) x
-edited front old new rest o n cs laws c past x i h fits =
-    let z = text_with front old rest in
-    let w = text_with front new rest in
+pub edited : {A : Type 0} (edit : TextReplacement) (o n : Outcome A) (cs : List (Spot A)) → Every (Lawful (start_before edit) (start_after edit) o n) cs
+    → (c : Spot A) (past : ℕ) (x : Tree) → Among c cs → Passes edit c past → Fits c (unit_at c (start_after edit)) x → Edited o n c (unit_at c (start_before edit)) (unit_at c (start_after edit)) x
+edited edit o n cs laws c past x i h fits =
+    let z = start_before edit in
+    let w = start_after edit in
     let l = among (Lawful z w o n) c cs i laws in
     let t = h.ends in
     let u = h.shifted in
     let a = h.starts in
     let g = h.goes_on in
     let e : Edits z w c x = record {
-      before = before-same c.before front old new rest h.before;
+      before = before-same c.before edit h.before;
       fits = fits;
       covers = omega arith;
       some = omega arith;
-      after = after-same c.after past (c.at + (unit_at c z).taken) (c.at + (unit_at c w).taken) front old new rest (omega arith) (omega arith) h.after;
+      after = after-same c.after past (c.at + (unit_at c z).taken) (c.at + (unit_at c w).taken) edit (omega arith) (omega arith) h.after;
     } in
     let m = l.swaps x e in
     record {

@@ -1,5 +1,5 @@
 -- Content blocks without an expression have one note between their two, and look only at the token after their trivia.
-use Rattle.typst_edits.proofs.Cited.{◌≡◌, ℕ, suc, ◌+◌, ◌-◌, Bool, true, false, ◌&&◌, ◌==◌, if◌then◌else◌, List, [], ◌∷◌, ◌++◌, length, Some, refl, ap, sym, ◌∙◌, subst, arith, SyntaxKind, SyntaxMode, same, is_error, Place, moved, CharClasses, position, text_of, Mark, Note, State, Ask, shift, looked, marked, Hand, as_at_hand, hand_at, token_at, Trivia, Point, point_of, state_of, after_node, itself, flush_trivia, close_if, takes, Outcome, Level, plain, joined, repeated, hand_of, hand_asks_of, asked, entered, renewed, taken_node, flushed_state, done, run, ends, ends_block, markup_reading, max_depth, start_of, log, inner, look_again, bracket, inner_lead, inner_run, inner_tail, inner_close, run_at, Every, onwards, passed, block_at, blocks_of_text, Sequence, turn_of, lowered, unit_at, notes_in, on_both, IsEmpty, EmptyBlockLaw}
+use Rattle.typst_edits.proofs.Cited.{◌≡◌, ℕ, suc, ◌+◌, ◌-◌, Bool, true, false, ◌&&◌, ◌==◌, if◌then◌else◌, List, [], ◌∷◌, ◌++◌, length, Some, refl, ap, sym, ◌∙◌, subst, arith, SyntaxKind, SyntaxMode, same, is_error, Place, moved, CharClasses, position, text_of, Mark, Note, State, Ask, shift, looked, marked, Hand, as_at_hand, hand_at, token_at, Trivia, Point, point_of, state_of, after_node, itself, flush_trivia, close_if, takes, Outcome, Level, plain, joined, repeated, hand_of, hand_asks_of, asked, entered, renewed, taken_node, flushed_state, done, run, ends, ends_block, markup_reading, max_depth, start_of, log, inner, look_again, bracket, inner_lead, inner_run, inner_tail, inner_close, run_at, Every, onwards, passed, block_at, blocks_of_text, Sequence, turn_of, lowered, unit_at, notes_in, on_both, IsEmpty, EmptyBlockLaw, text_before}
 use Rattle.typst_kinds.specs.declared.kind.SyntaxKind.TheVariants as kind
 use Rattle.typst_kinds.specs.declared.mode.SyntaxMode.TheVariants as mode
 use Rattle.typst_language.specs.declared.calls.Block.TheVariants as block
@@ -177,8 +177,8 @@ module _ (k : CharClasses) (levels : ℕ) (z : Place) (s : Point) where
 
 pub empty-block-law : EmptyBlockLaw
 unfolding blocks_of_text log position
-empty-block-law k levels front old rest c past t chosen name left empty known =
-    let text = front ++ (old ++ rest) in
+empty-block-law k levels edit c past t chosen name left empty known =
+    let text = text_before edit in
     let z = start_of text in
     let d = block-log k text c chosen in
     let b = d.notes in
@@ -209,6 +209,6 @@ empty-block-law k levels front old rest c past t chosen name left empty known =
       says = of_it.mark ∙ of_it.holds.1;
       levels_there = of_it.levels ∙ ap (λ n. max_depth - n) fewer ∙ left;
       name_end = b.name_end;
-      after = λ h behind. record { inside = begin-each past rest (token_look (inner k levels) (moved t.gap place)) _ looks.each h; behind = behind };
-      after_too = λ h. begin-one past rest (token_look (inner k levels) (moved t.gap place)) _ looks h.inside;
+      after = λ h behind. record { inside = begin-each past edit.rest (token_look (inner k levels) (moved t.gap place)) _ looks.each h; behind = behind };
+      after_too = λ h. begin-one past edit.rest (token_look (inner k levels) (moved t.gap place)) _ looks h.inside;
     }

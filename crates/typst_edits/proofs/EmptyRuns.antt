@@ -1,5 +1,5 @@
 -- Runs without an expression: after their trivia only the token at their end is asked for.
-use Rattle.typst_edits.proofs.Cited.{◌≡◌, ℕ, ◌+◌, max, min, Bool, true, false, ◌&&◌, ◌==◌, if◌then◌else◌, nat_lt, List, [], ◌∷◌, ◌++◌, Some, refl, ap, sym, ◌∙◌, subst, arith, and-false, SyntaxKind, same, Place, moved, CharClasses, Look, look, position, far, near, token, Mark, Note, State, Ask, shift, looked, marked, is_end, AtHand, as_at_hand, hand_at, hand_asks, column_look, no_log, logged, Trivia, Point, state_of, flush_trivia, Outcome, Level, plain, joined, as_last, repeated, hand_of, hand_asks_of, asked, flushed_state, run, ends, markup_turn, markup_reading, level_at, max_depth, start_of, parsed, log, text_with, AllBeginIn, Every, onwards, passed, text_run, asked_past, lead, piece_at, tail, start, Sequence, hand-ends, IsEmpty, if-true, if-false, EmptyTextLaw}
+use Rattle.typst_edits.proofs.Cited.{◌≡◌, ℕ, ◌+◌, max, min, Bool, true, false, ◌&&◌, ◌==◌, if◌then◌else◌, nat_lt, List, [], ◌∷◌, ◌++◌, Some, refl, ap, sym, ◌∙◌, subst, arith, and-false, SyntaxKind, same, Place, moved, CharClasses, Look, look, position, far, near, token, Mark, Note, State, Ask, shift, looked, marked, is_end, AtHand, as_at_hand, hand_at, hand_asks, column_look, no_log, logged, Trivia, Point, state_of, flush_trivia, Outcome, Level, plain, joined, as_last, repeated, hand_of, hand_asks_of, asked, flushed_state, run, ends, markup_turn, markup_reading, level_at, max_depth, start_of, parsed, log, AllBeginIn, Every, onwards, passed, text_run, asked_past, lead, piece_at, tail, start, Sequence, hand-ends, IsEmpty, if-true, if-false, EmptyTextLaw, text_before, start_before}
 use Rattle.typst_kinds.specs.declared.kind.SyntaxKind.TheVariants as kind
 use Rattle.typst_kinds.specs.declared.mode.SyntaxMode.TheVariants as mode
 use Rattle.typst_language.specs.declared.calls.Mark.TheVariants as mark
@@ -180,9 +180,9 @@ end-look k b (c ∷ a) e = absurd (cc)
 
 pub empty-text-law : EmptyTextLaw
 unfolding run
-empty-text-law k front old rest past t e known =
-    let z = text_with front old rest in
-    let one = one-note k (front ++ (old ++ rest)) e in
+empty-text-law k edit past t e known =
+    let z = start_before edit in
+    let one = one-note k (text_before edit) e in
     let r = text_run k z in
     let s = passed t r.point in
     let stops : ends r.stops 0 (as_at_hand (hand_of r.level (moved t.gap z) s)).kind ≡ true =
@@ -198,7 +198,7 @@ empty-text-law k front old rest past t e known =
       notes = one.notes;
       says = one.mark;
       levels = one.levels;
-      after = begin-each past rest (token_look r.level (moved t.gap z)) (asked_past k 0 0 t z) asked.each;
-      after_too = begin-one past rest (token_look r.level (moved t.gap z)) (asked_past k 0 0 t z) asked;
-      always = λ within. begin-each past rest (token_look r.level y) (asked_past k 0 0 t z) asked.each (omega (arith, none), omega (arith, within), tt);
+      after = begin-each past edit.rest (token_look r.level (moved t.gap z)) (asked_past k 0 0 t z) asked.each;
+      after_too = begin-one past edit.rest (token_look r.level (moved t.gap z)) (asked_past k 0 0 t z) asked;
+      always = λ within. begin-each past edit.rest (token_look r.level y) (asked_past k 0 0 t z) asked.each (omega (arith, none), omega (arith, within), tt);
     }

@@ -1,10 +1,11 @@
 -- Notes among the entries of records, by number: a block's two, and what the number of a note says of looks.
-use Rattle.typst_edits.proofs.Cited.{◌≡◌, ℕ, suc, ◌+◌, ◌-◌, ◌<◌, ◌≤◌, ◌==◌, eq-eqb, Bool, true, false, ◌&&◌, if◌then◌else◌, List, [], ◌∷◌, ◌++◌, length, drop, Some, refl, ap, sym, ◌∙◌, arith, nat_le, None, subst, and_parts, eqb-true, false_from_ne_true, if-false, Block, Mark, Note, State, entry_kind_of, entry_of, entries_by, last_start, opening_of, IsRising, AllEnd, AllBegin, highest, lowest, nat_tests, CharClasses, Log, Entry, units_of, Units, units_by, front_of, rear_of, log, InOrderLaw, listed, front-law, rear-law, front_count, rear_count, token-of}
+use Rattle.typst_edits.proofs.Cited.{◌≡◌, ℕ, suc, ◌+◌, ◌-◌, ◌<◌, ◌≤◌, ◌==◌, eq-eqb, Bool, true, false, ◌&&◌, if◌then◌else◌, List, [], ◌∷◌, ◌++◌, length, drop, Some, refl, ap, sym, ◌∙◌, arith, nat_le, None, subst, and_parts, eqb-true, false_from_ne_true, if-false, Block, Mark, Note, State, entry_kind_of, entry_of, entries_by, last_start, opening_of, IsRising, AllEnd, AllBegin, highest, lowest, nat_tests, CharClasses, Log, Entry, units_of, Units, units_by, front_of, rear_of, log, listed, front-law, rear-law, front_count, rear_count, token-of}
 use Rattle.typst_candidates.specs.Records.{is_opening}
 use Rattle.std.specs.List.{slice_get}
 use Rattle.typst_language.specs.declared.calls.Mark.TheVariants as mark
 use Rattle.typst_edits.proofs.Walk.{first-if as if-on}
 pub use Rattle.std.proofs.lemmas.Option.{same_Some as some-number}
+use Rattle.typst_edits.proofs.InOrder.{in-order-law}
 
 -- ---- the first block that begins at a byte
 
@@ -138,10 +139,10 @@ pub record NumbersOf (k : CharClasses) (text : List ℕ) (earlier : List Note) (
   pub after : (end : ℕ) → end ≤ note.start → rear_count k text end ≤ length earlier → end < lowest later (log k text).least
   pub after_too : (end : ℕ) → end ≤ note.start → end < lowest later (log k text).least → rear_count k text end ≤ length earlier
 
-pub numbers-of : InOrderLaw → (k : CharClasses) (text : List ℕ) (earlier : List Note) (note : Note) (later : List Note) → (log k text).notes ≡ Some (earlier ++ note ∷ later) → NumbersOf k text earlier note later
-numbers-of ordered k text earlier note later is =
+pub numbers-of : (k : CharClasses) (text : List ℕ) (earlier : List Note) (note : Note) (later : List Note) → (log k text).notes ≡ Some (earlier ++ note ∷ later) → NumbersOf k text earlier note later
+numbers-of k text earlier note later is =
     let l = log k text in
-    let order = subst (λ ns. IsRising 0 ns) (ap listed is) (ordered k text) in
+    let order = subst (λ ns. IsRising 0 ns) (ap listed is) (in-order-law k text) in
     let units = units-are l _ is in
     let fronts : (at : ℕ) → front_count k text at ≡ front_of at 0 (entries_by 0 (earlier ++ note ∷ later)) = λ at. ap (λ (u : Units). front_of at 0 u.entries) units in
     let rears = λ (end : ℕ). ap (λ (u : Units). rear_of end 0 0 u.entries u.back) units in

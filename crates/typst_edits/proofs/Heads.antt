@@ -1,7 +1,7 @@
 -- An expression that isn't expected gives one error after the trivia, and only such an expression takes back the empty errors before it.
-use Rattle.typst_edits.proofs.Cited.{◌≡◌, ℕ, zero, suc, ◌<◌, ◌==◌, Bool, true, false, ◌&&◌, nat_lt, List, [], ◌∷◌, ◌++◌, length, drop, length-append, append_assoc, Some, None, refl, ap, sym, ◌∙◌, subst, arith, ◌+◌, lt-ltb, is_error, SyntaxKind, Place, moved, CharClasses, hint_with, Tree, text_of, error_of, made_error, advised, all_advised, MarkupExpr, Reading, Ask, SameIn, shift, anywhere, too_deep, deeper, is_end, AtHand, as_at_hand, hand_at, Hand, meaning_of, Trivia, Point, pending, point_of, hinted, surprise, peek, eat_making, flush_trivia, note, unexpected, Parser, ◌>>=◌, ◌>>◌, takes, gives, does, next, pick, repeat, calls, Outcome, Meaning, Level, plain, less, standing, joined, repeated, hand_of, hand_asks_of, taken_node, run, sane-run, less-none, moved-sum, on_both, on_if, ends, ends_block, note_piece, markup_turn, markup_head, markup_by, markup_expr, rules, level_at, max_depth, Tidy, Backs, together, inner_run, inner, bracket, inner_lead, run_at, EndsBefore, minds_at, first_place, begins_wrong, after_known, minds, text_run, onwards_at, goes, made, AllGo, end_of, End, asks_of, lead, pieces, end_at, Sequence, turn_of, first_of, first_end, then_of, then_end, then_place, hand-frame, same_in-shift, same_in-first, same_in-second, text_with, AllEndBy, Spot, hinted-append, MarkupHead, both_ways, false_from_ne_true, Run, read_as, top, IsRun, is_text_run, is_block_run, Before, PassesJoint}
+use Rattle.typst_edits.proofs.Cited.{◌≡◌, ℕ, zero, suc, ◌<◌, ◌==◌, Bool, true, false, ◌&&◌, nat_lt, List, [], ◌∷◌, ◌++◌, length, drop, length-append, append_assoc, Some, None, refl, ap, sym, ◌∙◌, subst, arith, ◌+◌, lt-ltb, is_error, SyntaxKind, Place, moved, CharClasses, hint_with, Tree, text_of, error_of, made_error, advised, all_advised, MarkupExpr, Reading, Ask, SameIn, shift, anywhere, too_deep, deeper, is_end, AtHand, as_at_hand, hand_at, Hand, meaning_of, Trivia, Point, pending, point_of, hinted, surprise, peek, eat_making, flush_trivia, note, unexpected, Parser, ◌>>=◌, ◌>>◌, takes, gives, does, next, pick, repeat, calls, Outcome, Meaning, Level, plain, less, standing, joined, repeated, hand_of, hand_asks_of, taken_node, run, sane-run, less-none, moved-sum, on_both, on_if, ends, ends_block, note_piece, markup_turn, markup_head, markup_by, markup_expr, rules, level_at, max_depth, Tidy, Backs, together, inner, bracket, inner_lead, run_at, EndsBefore, minds_at, first_place, begins_wrong, after_known, minds, text_run, onwards_at, goes, made, AllGo, end_of, End, asks_of, lead, Sequence, turn_of, first_of, first_end, then_of, then_end, then_place, hand-frame, same_in-shift, same_in-first, same_in-second, AllEndBy, Spot, hinted-append, MarkupHead, both_ways, false_from_ne_true, Run, read_as, top, IsRun, is_text_run, is_block_run, Before, PassesJoint, TextReplacement, text_before, start_before, start_after, Agrees, root_run, block_run}
 use Rattle.typst_edits.specs.Frame.{inner as block_inner}
-use Rattle.typst_edits.specs.Heads.{HeadLaw, MeetsLaw, InnerMeetsLaw, NoneBackLaw, NoneAfterLaw}
+use Rattle.typst_edits.specs.Heads.{HeadLaw, MeetsLaw, NoneBackLaw, NoneAfterLaw}
 use Rattle.typst_edits.proofs.Boundary.{KnownAt, turn-goes, first-of, going-on, known-made, made-ends, turn-ends}
 use Rattle.typst_edits.proofs.Children.{tidy-together, back-law, both-open}
 use Rattle.typst_edits.proofs.Joint.{known-is, ends-alike, onwards-is, first-now, leads-of, is-run, joined-behind}
@@ -321,22 +321,23 @@ lone-piece k r is i g h mind =
     minds-alone r.level r.stops leads.taking (run-wrong k r is) e.value (first_place i r) e.state (known-made r.level r.stops i (true, 0) r.place r.point leads.known g) h.0 mind
 
 pub meets-law : MeetsLaw
-meets-law k z i n f t u g h well known known_now value = record {
+meets-law k text top z i n m f t u g h well known known_now agrees = record {
   known = known;
   known_now = known_now;
-  value = value;
+  value = λ o. (subst (λ b. Agrees (root_run k text) b m (then_end i n (text_run k z)).value f.value) o agrees).1;
   over = λ o kind. ends-alike f.value.1 (then_end i n (text_run k z)).value.1 kind;
   errors = λ o m. absurd (both_ways _ ((head-law k (text_run k z) (is_text_run z) i n g h).next (well o) o) m);
 }
-
-pub inner-meets-law : InnerMeetsLaw
-inner-meets-law k levels z s i n f t u g h well known known_now value nesting = record {
-  known = known;
-  known_now = known_now;
-  value = value;
-  over = λ o kind. ap (λ a. ends ends_block a kind) (nesting o);
-  errors = λ o m. absurd (both_ways _ ((head-law k (inner_run k levels z s) (is_block_run levels z s) i n g h).next (well o) o) m);
-}
+meets-law k text (block_inner c levels among name level) z i n m f t u g h well known known_now agrees =
+    let q = run_at k levels c z in
+    let by = λ (b : Bool). Agrees (block_run c levels among name level) b m (then_end i n q).value f.value in
+    record {
+      known = known;
+      known_now = known_now;
+      value = λ o. (subst by o agrees).1;
+      over = λ o kind. ap (λ a. ends ends_block a kind) (subst by o agrees);
+      errors = λ o m. absurd (both_ways _ ((head-law k q (is_block_run levels (moved c.at z) (point_of c.start)) i n g h).next (well o) o) m);
+    }
 
 -- ---- the expression at which pieces that are read again begin is the same in both texts, so what they take back is the same too
 
@@ -372,17 +373,17 @@ pub record Minds (i : ℕ) (q p : Sequence) : Type 0 where
   pub ends : first_end i p ≡ first_end i q
   pub minds : minds_at p (first_place i p) (first_end i p) ≡ minds_at q (first_place i q) (first_end i q)
 
-module _ (k : CharClasses) (front old new rest : List ℕ) where
-  pub text-minds : (i : ℕ) → 0 < i → AllGo (pieces k i (text_with front old rest)) → AllEndBy (length front) ((lead k (text_with front old rest)).asks ++ asks_of (pieces k i (text_with front old rest)))
-      → Minds i (text_run k (text_with front old rest)) (text_run k (text_with front new rest))
+module _ (k : CharClasses) (edit : TextReplacement) where
+  pub text-minds : (i : ℕ) → 0 < i → AllGo (first_of i (text_run k (start_before edit))) → AllEndBy (length edit.front) ((lead k (start_before edit)).asks ++ asks_of (first_of i (text_run k (start_before edit))))
+      → Minds i (text_run k (start_before edit)) (text_run k (start_after edit))
   text-minds zero some go looks = absurd (omega (arith, some))
   text-minds (suc i) some go looks =
-      let z = text_with front old rest in
-      let w = text_with front new rest in
+      let z = start_before edit in
+      let w = start_after edit in
       let l = level_at k max_depth in
-      let seen = before-same _ front old new rest looks in
-      let e = end_at k (suc i) z in
-      let d = end_at k (suc i) w in
+      let seen = before-same _ edit looks in
+      let e = first_end (suc i) (text_run k z) in
+      let d = first_end (suc i) (text_run k w) in
       let same : d ≡ e = ap (end_of (true, 0) (lead k z).state) (pieces-same k (suc i) z w (λ l. seen)).pieces_same in
       let kind = cut-same l is_end i (true, 0) z w (lead k z).state go (same_in-second (lead k z).asks _ z w seen) in
       let place : moved d.taken w ≡ moved e.taken w = ap (λ (a : End (Bool × ℕ)). moved a.taken w) same in
@@ -394,12 +395,12 @@ block-empties : (k : CharClasses) (levels : ℕ) (c : Spot (Unit {0})) (z : Plac
 unfolding run
 block-empties k levels c z e = e
 
-module _ (k : CharClasses) (levels : ℕ) (front old new rest : List ℕ) (c : Spot (Unit {0})) where
-  pub block-minds : (i : ℕ) → 0 < i → AllGo (first_of i (run_at k levels c (text_with front old rest))) → EndsBefore k levels front old rest c i → Minds i (run_at k levels c (text_with front old rest)) (run_at k levels c (text_with front new rest))
+module _ (k : CharClasses) (levels : ℕ) (edit : TextReplacement) (c : Spot (Unit {0})) where
+  pub block-minds : (i : ℕ) → 0 < i → AllGo (first_of i (run_at k levels c (start_before edit))) → EndsBefore k levels edit c i → Minds i (run_at k levels c (start_before edit)) (run_at k levels c (start_after edit))
   block-minds zero some go looks = absurd (omega (arith, some))
   block-minds (suc i) some go looks =
-      let z0 = text_with front old rest in
-      let w0 = text_with front new rest in
+      let z0 = start_before edit in
+      let w0 = start_after edit in
       let z = moved c.at z0 in
       let w = moved c.at w0 in
       let l = inner k levels in
@@ -407,9 +408,9 @@ module _ (k : CharClasses) (levels : ℕ) (front old new rest : List ℕ) (c : S
       let q = run_at k levels c w0 in
       let o = inner_lead k levels z (point_of c.start) in
       let b = bracket k levels z (point_of c.start) in
-      let f = first-same k levels front old new rest c (suc i) looks in
+      let f = first-same k levels edit c (suc i) looks in
       let seen : SameIn (o.asks ++ asks_of (first_of (suc i) r)) r.place (moved b.taken w) =
-      same_in-at _ _ _ _ _ (sym (moved-sum c.at b.taken z0)) (sym (moved-sum c.at b.taken w0)) (same_in-shift (c.at + b.taken) _ z0 w0 (before-same _ front old new rest (looks.before_run some))) in
+      same_in-at _ _ _ _ _ (sym (moved-sum c.at b.taken z0)) (sym (moved-sum c.at b.taken w0)) (same_in-shift (c.at + b.taken) _ z0 w0 (before-same _ edit (looks.before_run some))) in
       let e = first_end (suc i) r in
       let d = first_end (suc i) q in
       let same : d ≡ e = ap (end_of (true, 0) r.point) f.first in
@@ -419,39 +420,39 @@ module _ (k : CharClasses) (levels : ℕ) (front old new rest : List ℕ) (c : S
 
 -- ---- any run
 
-pub run-minds : (k : CharClasses) (front old new rest : List ℕ) (r : Run k (front ++ (old ++ rest))) (i : ℕ) → 0 < i → AllGo (first_of i (read_as r (text_with front old rest))) → Before k front old rest r i → Minds i (read_as r (text_with front old rest)) (read_as r (text_with front new rest))
-run-minds k front old new rest top i some go looks = text-minds k front old new rest i some go (looks some)
-run-minds k front old new rest (block_inner c levels a b l) i some go looks = block-minds k levels front old new rest c i some go looks
+pub run-minds : (k : CharClasses) (edit : TextReplacement) (r : Run k (text_before edit)) (i : ℕ) → 0 < i → AllGo (first_of i (read_as r (start_before edit))) → Before k edit r i → Minds i (read_as r (start_before edit)) (read_as r (start_after edit))
+run-minds k edit top i some go looks = text-minds k edit i some go (looks some)
+run-minds k edit (block_inner c levels a b l) i some go looks = block-minds k levels edit c i some go looks
 
 -- No error stands where a run begins.
 record Empty (q v : Sequence) : Type 0 where
   was : q.point.empties ≡ 0
   now : v.point.empties ≡ 0
 
-begins-empty : (k : CharClasses) (front old new rest : List ℕ) (r : Run k (front ++ (old ++ rest))) (i n m past : ℕ) (t u : Trivia) → PassesJoint k front old new rest r i n m past t u → Empty (read_as r (text_with front old rest)) (read_as r (text_with front new rest))
-begins-empty k front old new rest top i n m past t u h = record { was = lead-empties k (text_with front old rest); now = lead-empties k (text_with front new rest) }
-begins-empty k front old new rest (block_inner c levels a b l) i n m past t u h =
-    let opens = both-open k levels front old new rest c a b l i n m past t u h in
-    record { was = block-empties k levels c (text_with front old rest) opens.old_opens.empties; now = block-empties k levels c (text_with front new rest) opens.new_opens.empties }
+begins-empty : (k : CharClasses) (edit : TextReplacement) (r : Run k (text_before edit)) (i n m past : ℕ) (t u : Trivia) → PassesJoint k edit r i n m past t u → Empty (read_as r (start_before edit)) (read_as r (start_after edit))
+begins-empty k edit top i n m past t u h = record { was = lead-empties k (start_before edit); now = lead-empties k (start_after edit) }
+begins-empty k edit (block_inner c levels a b l) i n m past t u h =
+    let opens = both-open k levels edit c a b l i n m past t u h in
+    record { was = block-empties k levels c (start_before edit) opens.old_opens.empties; now = block-empties k levels c (start_after edit) opens.new_opens.empties }
 
 pub none-back-law : NoneBackLaw
-none-back-law k front old new rest r zero n m past t u h well =
-    let e = begins-empty k front old new rest r 0 n m past t u h in
-    let q = read_as r (text_with front old rest) in
-    let v = read_as r (text_with front new rest) in
-    record { back = omega (arith, (back-law k q (is-run r (text_with front old rest)) 0 n).pieces_back, e.was); back_now = omega (arith, (back-law k v (is-run r (text_with front new rest)) 0 m).pieces_back, e.now) }
-none-back-law k front old new rest r (suc i) n m past t u h well =
+none-back-law k edit r zero n m past t u h well =
+    let e = begins-empty k edit r 0 n m past t u h in
+    let q = read_as r (start_before edit) in
+    let v = read_as r (start_after edit) in
+    record { back = omega (arith, (back-law k q (is-run r (start_before edit)) 0 n).pieces_back, e.was); back_now = omega (arith, (back-law k v (is-run r (start_after edit)) 0 m).pieces_back, e.now) }
+none-back-law k edit r (suc i) n m past t u h well =
     let some : 0 < suc i = omega arith in
     let mild = (well some).1 in
     record {
-      back = (head-law k (read_as r (text_with front old rest)) (is-run r (text_with front old rest)) (suc i) n h.first_go h.old_go).pieces_back mild;
-      back_now = (head-law k (read_as r (text_with front new rest)) (is-run r (text_with front new rest)) (suc i) m (first-now k front old new rest r (suc i) h.before h.first_go) h.new_go).pieces_back ((run-minds k front old new rest r (suc i) some h.first_go h.before).minds ∙ mild);
+      back = (head-law k (read_as r (start_before edit)) (is-run r (start_before edit)) (suc i) n h.first_go h.old_go).pieces_back mild;
+      back_now = (head-law k (read_as r (start_after edit)) (is-run r (start_after edit)) (suc i) m (first-now k edit r (suc i) h.before h.first_go) h.new_go).pieces_back ((run-minds k edit r (suc i) some h.first_go h.before).minds ∙ mild);
     }
 
 pub none-behind-law : NoneAfterLaw
-none-behind-law k front old new rest r i n m past t u h well =
-    let z = text_with front old rest in
+none-behind-law k edit r i n m past t u h well =
+    let z = start_before edit in
     let q = read_as r z in
     let heads = head-law k q (is-run r z) i n h.first_go h.old_go in
     let was : (onwards_at i n q).back ≡ 0 = ap (λ (o : Outcome (Unit {0})). o.back) (onwards-is q i n) ∙ heads.after_back (λ over. heads.next (well over) over) in
-    record { back = was; back_now = (joined-behind k front old new rest r i n m past t u h).back ∙ was }
+    record { back = was; back_now = (joined-behind k edit r i n m past t u h).back ∙ was }

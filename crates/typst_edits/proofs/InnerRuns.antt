@@ -1,5 +1,5 @@
 -- A candidate that isn't at the root is pieces of a content block's run.
-use Rattle.typst_edits.proofs.Cited.{◌≡◌, ℕ, ◌<◌, ◌==◌, Bool, true, false, ◌&&◌, if◌then◌else◌, List, [], ◌∷◌, ◌++◌, length, Some, refl, ap, sym, subst, arith, zero, suc, ◌+◌, ◌-◌, length-append, take, ◌∙◌, eqb-true, CharClasses, Tree, text_of, forest, trees, bare, inner_of, width, Mark, Note, opens_content, starts, up_to_end, after_first, cuts_in, top_cuts, log, max_depth, parsed, tree, Among, Hole, Deep, fill, path_in, plug, path_of, listed, Spot, kind_of, block_head, seconds_of_text, IsOf, Stems, from_unit, from_second, take-append_seam, is_block, Head, start_at, Block, texts, Child, laid, child_at, Candidate, candidates, inner, InnerPiecesOfLaw, Every, under, block_run, blocks_of_text, opening_child, OpensApartLaw}
+use Rattle.typst_edits.proofs.Cited.{◌≡◌, ℕ, ◌<◌, ◌==◌, Bool, true, false, ◌&&◌, if◌then◌else◌, List, [], ◌∷◌, ◌++◌, length, Some, refl, ap, sym, subst, arith, zero, suc, ◌+◌, ◌-◌, length-append, take, ◌∙◌, eqb-true, CharClasses, Tree, text_of, forest, trees, bare, inner_of, width, Mark, Note, opens_content, starts, up_to_end, after_first, cuts_in, top_cuts, log, max_depth, parsed, tree, Among, Hole, Deep, fill, path_in, plug, path_of, listed, Spot, kind_of, block_head, seconds_of_text, IsOf, Stems, from_unit, from_second, take-append_seam, is_block, Head, start_at, Block, texts, Child, laid, child_at, Candidate, candidates, inner, InnerPiecesOfLaw, Every, under, block_run, blocks_of_text, opening_child, TextReplacement, text_before, candidates_between}
 use Rattle.typst_edits.specs.CandidateRuns.{InnerPiecesOf}
 use Rattle.typst_edits.specs.Hole.Deep.{bare as alone}
 use Rattle.typst_edits.proofs.BlockPlaces.{hole-same, second-place}
@@ -117,7 +117,7 @@ in-block k text rs re c (under head left d right) x is inner step path child the
       content = subst (λ a. InContent (listed (log k text).notes) a x.head.kind child.node.head.kind) at content;
     }
 
-candidate-in : (k : CharClasses) (text : List ℕ) (rs re : ℕ) (root : Tree) (c : Candidate) → bare root ≡ bare (tree k text) → Among c (candidates k text rs re root) → c.is_block ≡ false → (c.path ≡ [] → ⊥) → InBlock k text rs re c
+candidate-in : (k : CharClasses) (text : List ℕ) (rs re : ℕ) (root : Tree) (c : Candidate) → bare root ≡ bare (tree k text) → Among c (candidates_between k text rs re root) → c.is_block ≡ false → (c.path ≡ [] → ⊥) → InBlock k text rs re c
 candidate-in k text rs re root c same chosen pieces other =
     let was = tree k text in
     let ns = listed (log k text).notes in
@@ -137,55 +137,55 @@ but-last : (path : List ℕ) (i : ℕ) (whole : List ℕ) → whole ≡ path ++ 
 but-last path i whole e = let short : length whole - 1 ≡ length path = omega (arith, length-append path (i ∷ []), ap length e) in grind (arith, take-append_seam)
 
 -- where the children of a unit's node begin
-unit-byte : (k : CharClasses) (front old rest : List ℕ) (root : Tree) (s : Spot (Unit {0})) → Among s (blocks_of_text k (front ++ (old ++ rest))) → bare root ≡ bare (tree k (front ++ (old ++ rest))) → s.node.head ≡ block_head s.name
+unit-byte : (k : CharClasses) (edit : TextReplacement) (root : Tree) (s : Spot (Unit {0})) → Among s (blocks_of_text k (text_before edit)) → bare root ≡ bare (tree k (text_before edit)) → s.node.head ≡ block_head s.name
     → start_at (path_of s.hole) 0 root ≡ length (left_text s.hole)
-unit-byte k front old rest root s there same head =
+unit-byte k edit root s there same head =
     let path = path_of s.hole in
     let none_more : length s.node.head.text ≡ 0 = ap (λ (h : Head). length h.text) head in
-    let is = start-same path 0 root (tree k (front ++ (old ++ rest))) same ∙ ap (start_at path 0) (tree-by-block k front old rest s there s.node refl) ∙ start-plug s.hole s.node in
+    let is = start-same path 0 root (tree k (text_before edit)) same ∙ ap (start_at path 0) (tree-by-block k edit s there s.node refl) ∙ start-plug s.hole s.node in
     omega (arith, is, none_more)
 
-module _ (apart : OpensApartLaw) (k : CharClasses) (front old rest : List ℕ) (root : Tree) (c : Candidate) (same : bare root ≡ bare (tree k (front ++ (old ++ rest))))
-    (chosen : Among c (candidates k (front ++ (old ++ rest)) (width front) (width (front ++ old)) root)) (pieces : c.is_block ≡ false) (b : InBlock k (front ++ (old ++ rest)) (width front) (width (front ++ old)) c) where
+module _ (k : CharClasses) (edit : TextReplacement) (root : Tree) (c : Candidate) (same : bare root ≡ bare (tree k (text_before edit)))
+    (chosen : Among c (candidates k edit root)) (pieces : c.is_block ≡ false) (b : InBlock k (text_before edit) (width edit.front) (width (edit.front ++ edit.old)) c) where
   abbrev whole_text : List ℕ
-  whole_text = front ++ (old ++ rest)
+  whole_text = text_before edit
 
   -- Its node isn't empty, and begins before the stretch.
   record Covered : Type 0 where
     full : 0 < length (text_of b.node)
-    early : length (left_text b.hole) < width front
+    early : length (left_text b.hole) < width edit.front
 
   covered : Covered
   covered =
       let x = b.node in
       let l = lies (length (left_text b.hole) + length x.head.text) (trees x.kids) b.step b.child b.there in
       let held : length (text_of x) ≡ length x.head.text + length (texts (trees x.kids)) = length-append x.head.text _ ∙ ap (λ n. length x.head.text + n) (ap length (joined-trees x.kids)) in
-      record { full = omega (arith, l.from, l.to, b.covers.starts, b.covers.ends, width-append front old, held); early = omega (arith, l.from, b.covers.starts) }
+      record { full = omega (arith, l.from, l.to, b.covers.starts, b.covers.ends, width-append edit.front edit.old, held); early = omega (arith, l.from, b.covers.starts) }
 
   -- the block of its node, if that is a unit
-  module _ (s : Spot (Unit {0})) (there : Among s (blocks_of_text k (front ++ (old ++ rest)))) (of : IsOf b.hole b.node s) where
+  module _ (s : Spot (Unit {0})) (there : Among s (blocks_of_text k (text_before edit))) (of : IsOf b.hole b.node s) where
     name : s.name ≡ block.Content
     name = name-is s.name (ap (λ (h : Head). h.kind) (sym of.head) ∙ b.content.content)
 
     full : 0 < length (text_of s.node)
     full = subst (λ (t : Tree). 0 < length (text_of t)) (sym of.node) covered.full
 
-    place : length (left_text s.hole) ≡ width (take s.at (front ++ (old ++ rest)))
+    place : length (left_text s.hole) ≡ width (take s.at (text_before edit))
     place = (seat-of k whole_text s there full).left_is
 
-    noted : cuts_in (width (take s.at (front ++ (old ++ rest)))) (listed (log k (front ++ (old ++ rest))).notes) ≡ Some b.content.cuts
+    noted : cuts_in (width (take s.at (text_before edit))) (listed (log k (text_before edit)).notes) ≡ Some b.content.cuts
     noted =
         subst (λ a. cuts_in a (listed (log k whole_text).notes) ≡ Some b.content.cuts) (sym (ap length (hole-same s.hole b.hole s.node b.node of.path of.nodes).0) ∙ place) b.content.noted
 
-    by-level : (levels : ℕ) → max_depth - s.fewer ≡ suc levels → InnerPiecesOf k front old rest root c
+    by-level : (levels : ℕ) → max_depth - s.fewer ≡ suc levels → InnerPiecesOf k edit root c
     by-level levels level =
         let some = (seat-of k whole_text s there full).some in
         let first = length (left_text b.hole) + length b.node.head.text in
         let step : b.step ≡ 1 = second-alone b.node (subst Plain of.node (plain-block k levels whole_text s there name level some)) first b.step b.child b.there b.covers.inner b.content.markup in
         let path : c.path ≡ path_of s.hole ++ 1 ∷ [] = b.path_is ∙ ap (λ p. p ++ b.step ∷ []) (sym of.path) ∙ ap (λ i. path_of s.hole ++ i ∷ []) step in
         let own = block_run s levels there name level in
-        let o = run-of apart k front old rest root own c same chosen pieces path in
-        let p = has-pieces k front old rest own c o in
+        let o = run-of k edit root own c same chosen pieces path in
+        let p = has-pieces k edit own c o in
         let head : s.node.head ≡ block_head s.name = ap (λ (t : Tree). t.head) of.node ∙ of.head in
         record {
           s = s;
@@ -195,7 +195,7 @@ module _ (apart : OpensApartLaw) (k : CharClasses) (front old rest : List ℕ) (
           level = level;
           path = path;
           around = o.encloses;
-          byte = ap (λ q. start_at q 0 root) (but-last (path_of s.hole) 1 c.path path) ∙ unit-byte k front old rest root s there same head ∙ place;
+          byte = ap (λ q. start_at q 0 root) (but-last (path_of s.hole) 1 c.path path) ∙ unit-byte k edit root s there same head ∙ place;
           i = p.i;
           n = p.n;
           past = p.past;
@@ -203,17 +203,17 @@ module _ (apart : OpensApartLaw) (k : CharClasses) (front old rest : List ℕ) (
           is = p.is;
         }
 
-    of-unit : (left : ℕ) → max_depth - s.fewer ≡ left → InnerPiecesOf k front old rest root c
-    of-unit zero e = absurd (some-level apart k whole_text s b.content.cuts there name noted e)
+    of-unit : (left : ℕ) → max_depth - s.fewer ≡ left → InnerPiecesOf k edit root c
+    of-unit zero e = absurd (some-level k whole_text s b.content.cuts there name noted e)
     of-unit (suc levels) e = by-level levels e
 
-  by-stems : Stems k (front ++ (old ++ rest)) b.hole b.node → InnerPiecesOf k front old rest root c
+  by-stems : Stems k (text_before edit) b.hole b.node → InnerPiecesOf k edit root c
   by-stems (from_unit s there of) = of-unit s there of (max_depth - s.fewer) refl
-  by-stems (from_second s there of) = absurd (none-there k front (old ++ rest) b.hole b.node s b.content.cuts there of covered.full covered.early b.content.noted)
+  by-stems (from_second s there of) = absurd (none-there k edit.front (edit.old ++ edit.rest) b.hole b.node s b.content.cuts there of covered.full covered.early b.content.noted)
 
-pub inner-pieces-of-law : OpensApartLaw → InnerPiecesOfLaw
-inner-pieces-of-law apart k front old rest root c same chosen pieces other =
-    let text = front ++ (old ++ rest) in
-    let b = candidate-in k text (width front) (width (front ++ old)) root c same chosen pieces other in
+pub inner-pieces-of-law : InnerPiecesOfLaw
+inner-pieces-of-law k edit root c same chosen pieces other =
+    let text = text_before edit in
+    let b = candidate-in k text (width edit.front) (width (edit.front ++ edit.old)) root c same chosen pieces other in
     let is_one : is_block b.node.head.kind ≡ true = ap is_block b.content.content in
-    by-stems apart k front old rest root c same chosen pieces b (standing-law k text b.hole b.node b.is (block-head b.node b.inner is_one))
+    by-stems k edit root c same chosen pieces b (standing-law k text b.hole b.node b.is (block-head b.node b.inner is_one))

@@ -1,5 +1,5 @@
 -- The law of an edit inside some pieces of a run that leaves other trivia or other errors after them: of a text's run and of a content block's.
-use Rattle.typst_edits.proofs.Cited.{◌≡◌, inl, inr, ◌⊎◌, ℕ, zero, suc, Bool, true, false, ◌&&◌, if◌then◌else◌, Some, refl, ap, sym, ◌∙◌, subst, ◌+◌, ◌<◌, List, ◌++◌, length, drop, ne_eqb, [], ◌∷◌, arith, SyntaxKind, Place, moved, Reading, SameIn, Ask, is_end, Hand, hand_at, len_at, Trivia, Point, point_of, forgot, flush_trivia, close_if, ◌>>=◌, repeat, does, Outcome, Meaning, joined, run, plain, entered, left, same_mode, hand_of, hand_asks_of, renewed, taken_node, hand-frame, sane-run, sane-at, sane-meaning, sane-block, sane-plain, ends, markup_turn, markup_head, markup_reading, ends_block, minds, onwards, passed, text_run, place_from, onwards_at, End, made, end_of, AllGo, chain, piece_at, lead, pieces, end_at, pieces_from, end_from, rest_from, tail, whole_of, Sequence, turn_of, first_of, first_end, then_of, then_end, then_place, rest_of, Tree, text_of, CharClasses, MarkupExpr, meaning_of, rules, level_at, max_depth, text_with, Passes, same, is_error, Newlines, after_node, after_shape, encloses, itself, takes, same_in-shift, same_in-first, same_in-second, moved-sum, inner, look_again, bracket, inner_run, content_with, run_at, tail_at, close_at, onwards_past, left_past, ended, unit_at, onwards_by, Rests, peek, start, Stands, Run, read_as, top, IsRun, is_text_run, is_block_run, PassesJoint, Before, opened_by, is_over_at, Meets, Exchanged}
+use Rattle.typst_edits.proofs.Cited.{◌≡◌, inl, inr, ◌⊎◌, ℕ, zero, suc, Bool, true, false, ◌&&◌, if◌then◌else◌, Some, refl, ap, sym, ◌∙◌, subst, ◌+◌, ◌<◌, List, ◌++◌, length, drop, ne_eqb, [], ◌∷◌, arith, SyntaxKind, Place, moved, Reading, SameIn, Ask, is_end, Hand, hand_at, len_at, Trivia, Point, point_of, forgot, flush_trivia, close_if, ◌>>=◌, repeat, does, Outcome, Meaning, joined, run, plain, entered, left, same_mode, hand_of, hand_asks_of, renewed, taken_node, hand-frame, sane-run, sane-at, sane-meaning, sane-block, sane-plain, ends, markup_turn, markup_head, markup_reading, ends_block, minds, onwards, passed, text_run, onwards_at, End, made, end_of, AllGo, chain, piece_at, lead, tail, whole_of, Sequence, turn_of, first_of, first_end, then_of, then_end, then_place, rest_of, Tree, text_of, CharClasses, MarkupExpr, meaning_of, rules, level_at, max_depth, Passes, same, is_error, Newlines, after_node, after_shape, encloses, itself, takes, same_in-shift, same_in-first, same_in-second, moved-sum, inner, look_again, bracket, inner_run, content_with, run_at, tail_at, close_at, onwards_past, left_past, ended, unit_at, onwards_by, Rests, peek, start, Stands, Run, read_as, top, IsRun, is_text_run, is_block_run, PassesJoint, Before, opened_by, is_over_at, Meets, Exchanged, TextReplacement, text_before, text_after, start_before, start_after}
 use Rattle.typst_edits.specs.Frame.{inner as block_inner}
 use Rattle.typst_edits.specs.Joins.{InnerJointLaw, JointLaw}
 use Rattle.typst_language.proofs.Rests.{Restful}
@@ -180,37 +180,37 @@ module _ (k : CharClasses) where
   known-read g s t e read = known-is s t e ∙ (λ v. before_trivia (read.reading v) (read.held v) s.empties s.is_after_error t)
 
 -- The pieces of a text are read as markup.
-pub text-read : (k : CharClasses) (i n : ℕ) (z : Place) → ReadAs markup_reading (end_from k i n z).state
+pub text-read : (k : CharClasses) (i n : ℕ) (z : Place) → ReadAs markup_reading (then_end i n (text_run k z)).state
 unfolding run
 text-read k i n z =
     let rests = λ (x : Bool × ℕ). (sane-at (rules k) k max_depth (markup_turn true is_end x)).rests in
-    let e = end_at k i z in
+    let e = first_end i (text_run k z) in
     let before = read-made markup_reading (piece_at k) rests i (true, 0) z (lead k z).state (record { reading = refl; held = refl }) in
     read-made markup_reading (piece_at k) rests n e.value (moved e.taken z) e.state before
 
 pub joint-law : JointLaw
-joint-law k front old new rest i n m past t u h =
-    let z = text_with front old rest in
-    let w = text_with front new rest in
-    let f = first-same k i z w (λ l. before-same _ front old new rest (h.before l)) in
-    let new_first : AllGo (pieces k i w) = subst (λ os. AllGo os) (sym f.pieces_same) h.first_go in
-    let e = end_from k i n z in
-    let j = end_from k i m w in
-    let y = place_from k i n z in
-    let v = place_from k i m w in
-    let old_at = (length front + length old) + past in
-    let new_at = (length front + length new) + past in
-    let there : moved t.gap y ≡ moved old_at z = sym (moved-three (end_at k i z).taken e.taken t.gap z) ∙ ap (λ a. moved a z) (omega (arith, h.ends)) in
-    let here : moved u.gap v ≡ moved new_at w = sym (moved-three (end_at k i w).taken j.taken u.gap w) ∙ ap (λ a. moved a w) (omega (arith, h.shifted)) in
-    let shown = same_in-at _ _ _ _ _ there here (after-same _ past old_at new_at front old new rest refl refl h.after) in
+joint-law k edit i n m past t u h =
+    let z = start_before edit in
+    let w = start_after edit in
+    let f = first-same k i z w (λ l. before-same _ edit (h.before l)) in
+    let new_first : AllGo (first_of i (text_run k w)) = subst (λ os. AllGo os) (sym f.pieces_same) h.first_go in
+    let e = then_end i n (text_run k z) in
+    let j = then_end i m (text_run k w) in
+    let y = then_place i n (text_run k z) in
+    let v = then_place i m (text_run k w) in
+    let old_at = (length edit.front + length edit.old) + past in
+    let new_at = (length edit.front + length edit.new) + past in
+    let there : moved t.gap y ≡ moved old_at z = sym (moved-three (first_end i (text_run k z)).taken e.taken t.gap z) ∙ ap (λ a. moved a z) (omega (arith, h.ends)) in
+    let here : moved u.gap v ≡ moved new_at w = sym (moved-three (first_end i (text_run k w)).taken j.taken u.gap w) ∙ ap (λ a. moved a w) (omega (arith, h.shifted)) in
+    let shown = same_in-at _ _ _ _ _ there here (after-same _ past old_at new_at edit refl refl h.after) in
     let all = met (text_run k z) (text-taking k) y v e j t u h.meets (text-read k i n z) (text-read k i m w) shown in
     let behind = exchanged t u t.nodes (onwards (text_run k z) e.value y e.state) (onwards (text_run k z) j.value v j.state) _ all.one all.two in
     record {
       first = f.pieces_same;
       lead_same = f.lead_same;
-      was = whole-is k (front ++ (old ++ rest)) ∙ ap (λ o. whole_of (lead k z) o (tail k o.taken o.state z)) (split (text_run k z) (within k) i n h.first_go h.old_go);
-      now = whole-is k (front ++ (new ++ rest)) ∙ ap (λ o. whole_of (lead k w) o (tail k o.taken o.state w)) (split (text_run k w) (within k) i m new_first h.new_go)
-          ∙ ap (λ os. (let o = chain os (chain (pieces_from k i m w) (rest_from k i m w)) in whole_of (lead k w) o (tail k o.taken o.state w))) f.pieces_same;
+      was = whole-is k (text_before edit) ∙ ap (λ o. whole_of (lead k z) o (tail k o.taken o.state z)) (split (text_run k z) (within k) i n h.first_go h.old_go);
+      now = whole-is k (text_after edit) ∙ ap (λ o. whole_of (lead k w) o (tail k o.taken o.state w)) (split (text_run k w) (within k) i m new_first h.new_go)
+          ∙ ap (λ os. (let o = chain os (chain (then_of i m (text_run k w)) (rest_of i m (text_run k w))) in whole_of (lead k w) o (tail k o.taken o.state w))) f.pieces_same;
       behind = subst (λ o. Exchanged t u o (onwards_at i m (text_run k w))) (sym (onwards-is (text_run k z) i n)) (subst (λ o. Exchanged t u (onwards_by i n (text_run k z)) o) (sym (onwards-is (text_run k w) i m)) behind);
     }
 
@@ -301,9 +301,9 @@ content-forgets k levels z s r behind close =
 
 pub inner-joint-law : InnerJointLaw
 unfolding run
-inner-joint-law k levels front old new rest c among name level i n m past t u h =
-    let z0 = text_with front old rest in
-    let w0 = text_with front new rest in
+inner-joint-law k levels edit c among name level i n m past t u h =
+    let z0 = start_before edit in
+    let w0 = start_after edit in
     let z = moved c.at z0 in
     let w = moved c.at w0 in
     let s = point_of c.start in
@@ -311,7 +311,7 @@ inner-joint-law k levels front old new rest c among name level i n m past t u h 
     let q = run_at k levels c w0 in
     let b = bracket k levels z s in
     let d = bracket k levels w s in
-    let first_is : first_of i q ≡ first_of i r = (inner-first-same k levels front old new rest c i h.before).first in
+    let first_is : first_of i q ≡ first_of i r = (inner-first-same k levels edit c i h.before).first in
     let new_first : AllGo (first_of i q) = subst (λ os. AllGo os) (sym first_is) h.first_go in
     let fe = first_end i r in
     let ff = first_end i q in
@@ -322,8 +322,8 @@ inner-joint-law k levels front old new rest c among name level i n m past t u h 
     let tail_old = tail_at k levels i n c z0 in
     let tail_new = tail_at k levels i m c w0 in
     let close = close_at k levels i n c z0 in
-    let old_at = (length front + length old) + past in
-    let new_at = (length front + length new) + past in
+    let old_at = (length edit.front + length edit.old) + past in
+    let new_at = (length edit.front + length edit.new) + past in
     let y = then_place i n r in
     let v = then_place i m q in
     let es = e.state in
@@ -331,7 +331,7 @@ inner-joint-law k levels front old new rest c among name level i n m past t u h 
     let there : moved t.gap y ≡ moved old_at z0 = ap (moved t.gap) (moved-four c.at b.taken fe.taken e.taken z0) ∙ sym (moved-sum ((c.at + b.taken) + (fe.taken + e.taken)) t.gap z0) ∙ ap (λ a. moved a z0) h.ends in
     let here : moved u.gap v ≡ moved new_at w0 = ap (moved u.gap) (moved-four c.at d.taken ff.taken j.taken w0) ∙ sym (moved-sum ((c.at + d.taken) + (ff.taken + j.taken)) u.gap w0) ∙ ap (λ a. moved a w0) h.shifted in
     let on = onwards_past k levels i n t c z0 in
-    let all = same_in-at _ _ _ _ _ there here (after-same _ past old_at new_at front old new rest refl refl h.after.inside) in
+    let all = same_in-at _ _ _ _ _ there here (after-same _ past old_at new_at edit refl refl h.after.inside) in
     let read_old = block-read k levels i n z s in
     let read_new = block-read k levels i m w s in
     let all_met = met r (block-taking k levels) y v e j t u h.meets read_old read_new (same_in-first on.asks _ (moved t.gap y) (moved u.gap v) all) in
@@ -366,7 +366,7 @@ inner-joint-law k levels front old new rest c among name level i n m past t u h 
     ∙ shut-same k levels y2 v2 tail_old.state tail_new.state read_tail read_tail_new flush_old flush_new (subst (λ (o : Outcome Bool). SameIn o.asks y2 v2) close_old last)
     ∙ sym (ap (λ (o : Outcome Bool). forgets o) close_old) in
     -- the block
-    let reads = content-reads k (front ++ (old ++ rest)) c among levels name level in
+    let reads = content-reads k (text_before edit) c among levels name level in
     let ended_of = λ (o : Outcome (Unit {0})). ended o in
     let was = reads z0 ∙ ap ended_of (content-split k levels z s i n h.first_go h.old_go) in
     let mine = reads w0 ∙ ap ended_of (content-split k levels w s i m new_first h.new_go) in
@@ -381,7 +381,7 @@ inner-joint-law k levels front old new rest c among name level i n m past t u h 
     ap (λ (o : Outcome (Unit {0})). o.taken) mine ∙ content-taken k levels w s (chain (first_of i q) (chain (then_of i m q) rest_new)) tail_new (close_at k levels i m c w0)
     ∙ ap (λ a. d.taken + (a + (tail_new.taken + (close_at k levels i m c w0).taken))) (split-taken q i m)
     ∙ ap (λ (o : Outcome Bool). d.taken + (((ff.taken + j.taken) + rest_new.taken) + (tail_new.taken + o.taken))) close_is in
-    let passes : Passes front old new rest c (past + left_past k levels i n t c z0) = record {
+    let passes : Passes edit c (past + left_past k levels i n t c z0) = record {
       starts = h.encloses.starts;
       ends = omega (arith, old_taken, h.ends, took_old);
       goes_on = omega (arith, old_taken, h.ends, took_old, h.encloses.ends);
@@ -394,7 +394,7 @@ inner-joint-law k levels front old new rest c among name level i n m past t u h 
       now = now;
       behind = subst (λ o. Exchanged t u o (onwards_at i m (run_at k levels c w0))) (sym is_old) (subst (λ o. Exchanged t u (onwards r e.value y es) o) (sym is_new) behind);
       passes = passes;
-      kept = block-law k front old new rest c _ among passes;
+      kept = block-law k edit c _ among passes;
     }
 
 -- ---- any run
@@ -419,19 +419,19 @@ is-run top z = is_text_run z
 is-run (block_inner c levels a n l) z = is_block_run levels (moved c.at z) (point_of c.start)
 
 -- A run begins alike in both texts, up to pieces before which all looks end before the stretch.
-pub record SameStart (k : CharClasses) (front old new rest : List ℕ) (r : Run k (front ++ (old ++ rest))) (i : ℕ) : Type 0 where
-  pub first : first_of i (read_as r (text_with front new rest)) ≡ first_of i (read_as r (text_with front old rest))
-  pub opened : opened_by r (text_with front new rest) ≡ opened_by r (text_with front old rest)
+pub record SameStart (k : CharClasses) (edit : TextReplacement) (r : Run k (text_before edit)) (i : ℕ) : Type 0 where
+  pub first : first_of i (read_as r (start_after edit)) ≡ first_of i (read_as r (start_before edit))
+  pub opened : opened_by r (start_after edit) ≡ opened_by r (start_before edit)
 
-pub same-start : (k : CharClasses) (front old new rest : List ℕ) (r : Run k (front ++ (old ++ rest))) (i : ℕ) → Before k front old rest r i → SameStart k front old new rest r i
-same-start k front old new rest top i looks = record { first = (first-same k i (text_with front old rest) (text_with front new rest) (λ l. before-same _ front old new rest (looks l))).pieces_same; opened = refl }
-same-start k front old new rest (block_inner c levels a b l) i looks = let f = inner-first-same k levels front old new rest c i looks in record { first = f.first; opened = ap (λ (o : Outcome (Unit {0})). c.at + o.taken) f.opened }
+pub same-start : (k : CharClasses) (edit : TextReplacement) (r : Run k (text_before edit)) (i : ℕ) → Before k edit r i → SameStart k edit r i
+same-start k edit top i looks = record { first = (first-same k i (start_before edit) (start_after edit) (λ l. before-same _ edit (looks l))).pieces_same; opened = refl }
+same-start k edit (block_inner c levels a b l) i looks = let f = inner-first-same k levels edit c i looks in record { first = f.first; opened = ap (λ (o : Outcome (Unit {0})). c.at + o.taken) f.opened }
 
-pub first-now : (k : CharClasses) (front old new rest : List ℕ) (r : Run k (front ++ (old ++ rest))) (i : ℕ) → Before k front old rest r i → AllGo (first_of i (read_as r (text_with front old rest))) → AllGo (first_of i (read_as r (text_with front new rest)))
-first-now k front old new rest r i looks go = subst (λ os. AllGo os) (sym (same-start k front old new rest r i looks).first) go
+pub first-now : (k : CharClasses) (edit : TextReplacement) (r : Run k (text_before edit)) (i : ℕ) → Before k edit r i → AllGo (first_of i (read_as r (start_before edit))) → AllGo (first_of i (read_as r (start_after edit)))
+first-now k edit r i looks go = subst (λ os. AllGo os) (sym (same-start k edit r i looks).first) go
 
 -- everything after the joint
-pub joined-behind : (k : CharClasses) (front old new rest : List ℕ) (r : Run k (front ++ (old ++ rest))) (i n m past : ℕ) (t u : Trivia) → PassesJoint k front old new rest r i n m past t u
-    → Exchanged t u (onwards_at i n (read_as r (text_with front old rest))) (onwards_at i m (read_as r (text_with front new rest)))
-joined-behind k front old new rest top i n m past t u h = (joint-law k front old new rest i n m past t u h).behind
-joined-behind k front old new rest (block_inner c levels a b l) i n m past t u h = (inner-joint-law k levels front old new rest c a b l i n m past t u h).behind
+pub joined-behind : (k : CharClasses) (edit : TextReplacement) (r : Run k (text_before edit)) (i n m past : ℕ) (t u : Trivia) → PassesJoint k edit r i n m past t u
+    → Exchanged t u (onwards_at i n (read_as r (start_before edit))) (onwards_at i m (read_as r (start_after edit)))
+joined-behind k edit top i n m past t u h = (joint-law k edit i n m past t u h).behind
+joined-behind k edit (block_inner c levels a b l) i n m past t u h = (inner-joint-law k levels edit c a b l i n m past t u h).behind

@@ -122,6 +122,7 @@ pub mod RunOver
 pub mod AnyRun
 pub mod RunTest
 pub mod Served
+pub mod ForParser
 -- What the crates above name of those below.
 pub use Rattle.typst_grammar.proofs.AtLevels
 pub use Rattle.typst_language.proofs.Knowing

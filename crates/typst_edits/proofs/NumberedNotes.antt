@@ -1,5 +1,5 @@
 -- The notes of a run by their numbers.
-use Rattle.typst_edits.proofs.Cited.{◌≡◌, ℕ, zero, suc, ◌+◌, ◌-◌, ◌<◌, ◌==◌, eq-eqb, ne_eqb, max, min, List, [], ◌∷◌, ◌++◌, length, refl, ap, sym, subst, arith, Bool, true, false, ◌&&◌, nat_lt, take, Some, ◌∙◌, ◌≤◌, if◌then◌else◌, length-append, Place, moved, position, far, near, width, Mark, Note, State, Ask, shift, looked, marked, of_level, Numbered, cut_after, SaysOf, NumberedInner, ltb-true, lt-ltb, SyntaxKind, same, Nested, CharClasses, MarkupExpr, deeper, is_end, as_at_hand, Point, gap_of, point_of, state_of, after_node, Outcome, Meaning, Level, joined, turns, as_last, bound, repeated, hand_of, hand_asks_of, asked, run, sane-run, sane-at, moved-sum, and-second, ends, markup_turn, ends_block, max_depth, level_at, start_of, parsed, log, rules, inner, bracket, inner_lead, inner_run, inner_tail, inner_close, run_at, opened_at, Among, inner_end, blocks_of_text, block_at, goes, listed, made, AllGo, End, end_of, piece_at, end_at, start, lead, tail, pieces, Sequence, turn_of, notes_in, Spot, unit_at, peek, Within, if-true, if-false, NumberedRunLaw, NumberedInnerLaw, NumberLaw, Says}
+use Rattle.typst_edits.proofs.Cited.{◌≡◌, ℕ, zero, suc, ◌+◌, ◌-◌, ◌<◌, ◌==◌, eq-eqb, ne_eqb, max, min, List, [], ◌∷◌, ◌++◌, length, refl, ap, sym, subst, arith, Bool, true, false, ◌&&◌, nat_lt, take, Some, ◌∙◌, ◌≤◌, if◌then◌else◌, length-append, Place, moved, position, far, near, width, Mark, Note, State, Ask, shift, looked, marked, of_level, Numbered, cut_after, SaysOf, NumberedInner, ltb-true, lt-ltb, SyntaxKind, same, Nested, CharClasses, MarkupExpr, deeper, is_end, as_at_hand, Point, gap_of, point_of, state_of, after_node, Outcome, Meaning, Level, joined, turns, as_last, bound, repeated, hand_of, hand_asks_of, asked, run, sane-run, sane-at, moved-sum, and-second, ends, markup_turn, ends_block, max_depth, level_at, start_of, parsed, log, rules, inner, bracket, inner_lead, inner_run, inner_tail, inner_close, run_at, opened_at, Among, inner_end, blocks_of_text, block_at, goes, listed, made, AllGo, End, end_of, piece_at, start, lead, tail, Sequence, turn_of, notes_in, Spot, unit_at, peek, Within, if-true, if-false, NumberedRunLaw, NumberedInnerLaw, NumberLaw, Says, text_run, first_of, first_end}
 use Rattle.typst_edits.proofs.Bytes.{none_yet, note_by, notes_from, fresh_notes, AllMarks, marks-append, marks-shift, none-hand, none-close, logged-listed}
 use Rattle.typst_edits.proofs.BlockRuns.{content-is, whole-is, within}
 use Rattle.typst_edits.proofs.Boundary.{KnownAt, stopped-is, stopped-asks, turn-asks, early-marks, turn-goes, turn-known, piece_mark}
@@ -247,7 +247,7 @@ numbered-run-law k text =
       go = r.go;
       over = r.over;
       all = subst (λ ns. length ns ≡ c) own_notes all_are;
-      each = subst (λ ns. Numbered (SaysOf text (λ i. end_at k i z)) 0 ns) own_notes (numbered-by (NoteNth P z) _ (λ i note h. says-of (piece_at k) (true, 0) z s 0 text (λ j. end_at k j z) i note (from-start (end_at k i z)) h) 0 (of_level max_depth notes) n.each);
+      each = subst (λ ns. Numbered (SaysOf text (λ i. first_end i (text_run k z))) 0 ns) own_notes (numbered-by (NoteNth P z) _ (λ i note h. says-of (piece_at k) (true, 0) z s 0 text (λ j. first_end j (text_run k z)) i note (from-start (first_end i (text_run k z))) h) 0 (of_level max_depth notes) n.each);
     }
 
 -- ---- a content block's run
@@ -432,7 +432,7 @@ number-law k text i g p =
     let z = start_of text in
     let s = (lead k z).state in
     let m = piece_at k in
-    let says = SaysOf text (λ n. end_at k n z) in
+    let says = SaysOf text (λ n. first_end n (text_run k z)) in
     let numbered = numbered-run-law k text in
     let before = of_level max_depth p.earlier in
     let behind = of_level max_depth p.later in
@@ -443,9 +443,9 @@ number-law k text i g p =
     let there = numbered-at says 0 before p.note behind (subst (λ ns. Numbered says 0 ns) split numbered.each) in
     let zero_more : 0 + j ≡ j = omega arith in
     let fits : j ≤ numbered.count = omega (arith, numbered.all, ap length split, length-append before (p.note ∷ behind)) in
-    let go_j : AllGo (pieces k j z) = go-fewer m j numbered.count (true, 0) z s fits numbered.go in
-    let at_i = (end_at k i z).taken in
-    let at_j = (end_at k j z).taken in
+    let go_j : AllGo (first_of j (text_run k z)) = go-fewer m j numbered.count (true, 0) z s fits numbered.go in
+    let at_i = (first_end i (text_run k z)).taken in
+    let at_j = (first_end j (text_run k z)).taken in
     let same : width (take at_i text) ≡ width (take at_j text) = sym p.before ∙ (subst (λ n. says n p.note) zero_more there).says.before in
     let known = (sane-at (rules k) k max_depth peek).within z start in
     let room_i : at_i ≤ length text = omega (arith, known, turns-within m (within k) i (true, 0) z s) in

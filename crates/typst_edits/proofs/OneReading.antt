@@ -1,5 +1,5 @@
 -- One reading of a new text serves every candidate of a run.
-use Rattle.typst_edits.proofs.Cited.{◌≡◌, ℕ, zero, suc, ◌+◌, ◌-◌, ◌<◌, ◌≤◌, ◌==◌, ne_eqb, if◌then◌else◌, Bool, true, false, ◌&&◌, nat_lt, List, [], ◌∷◌, ◌++◌, length, drop, length-append, append_assoc, Some, refl, ap, sym, ◌∙◌, subst, arith, map, take, slice_get, inl, lt-ltb, Place, moved, CharClasses, Ask, shift, is_end, Trivia, Point, gap_of, pending, point_of, peek, Parser, Outcome, Meaning, Level, plain, less, joined, hand_of, run, sane-run, moved-sum, less-none, ends, ends_block, markup_turn, rules, max_depth, start_of, tree, bracket, inner_lead, run_at, opened_at, tail_at, close_at, together, standing_by, nodes_after, read_by, text_with, AllEndBy, Run, top, read_as, opened_by, end_by, is_over, nodes_now, Before, Agrees, PassesPieces, cut_at, path_to, first_place, minds_at, onwards_by, text_run, onwards_at, goes, TakesNone, ServesMore, fresh, made, AllGo, End, end_of, asks_of, chain, lead, start, pieces, end_at, Sequence, turn_of, first_of, first_end, then_of, then_end, then_place, rest_of, Spot, made-sum, map-append, drop-map, drop-append-le, take-map, length-map, take-append-drop, Tree, bare, trees, replaced_at, At, kids_of, width, kids_in, given, AtPath, kids_of_run, run_from, StandsBetween, Begins, IsRun, is_block_run, TakesSome, StandsAt, Leading, length-take-le, EndsOld, EndsNew, OneReadingLaw, GivesAgain, GivesAgainLaw, Resumes, asks-append}
+use Rattle.typst_edits.proofs.Cited.{◌≡◌, ℕ, zero, suc, ◌+◌, ◌-◌, ◌<◌, ◌≤◌, ◌==◌, ne_eqb, if◌then◌else◌, Bool, true, false, ◌&&◌, nat_lt, List, [], ◌∷◌, ◌++◌, length, drop, length-append, append_assoc, Some, refl, ap, sym, ◌∙◌, subst, arith, map, take, slice_get, inl, lt-ltb, Place, moved, CharClasses, Ask, shift, is_end, Trivia, Point, gap_of, pending, point_of, peek, Parser, Outcome, Meaning, Level, plain, less, joined, hand_of, run, sane-run, moved-sum, less-none, ends, ends_block, markup_turn, rules, max_depth, start_of, tree, bracket, inner_lead, run_at, opened_at, tail_at, close_at, together, standing_by, nodes_after, read_by, AllEndBy, Run, top, read_as, opened_by, end_by, is_over, nodes_now, Before, Agrees, PassesPieces, cut_at, path_to, first_place, minds_at, onwards_by, text_run, onwards_at, goes, TakesNone, ServesMore, fresh, made, AllGo, End, end_of, asks_of, chain, lead, start, Sequence, turn_of, first_of, first_end, then_of, then_end, then_place, rest_of, Spot, made-sum, map-append, drop-map, drop-append-le, take-map, length-map, take-append-drop, Tree, bare, trees, replaced_at, At, kids_of, width, kids_in, given, AtPath, kids_of_run, run_from, StandsBetween, Begins, IsRun, is_block_run, TakesSome, StandsAt, Leading, length-take-le, EndsOld, EndsNew, OneReadingLaw, GivesAgain, GivesAgainLaw, Resumes, asks-append, TextReplacement, text_before, start_before, start_after}
 use Rattle.typst_edits.specs.BlockRuns.{inner as block_level}
 use Rattle.typst_edits.specs.Frame.{inner}
 use Rattle.typst_edits.specs.KeptNodes.{KeptNodes, KeptNodesLaw, PutAfterLaw}
@@ -169,11 +169,11 @@ fewer-looks q a d most at ls h =
 
 module _ (k : CharClasses) (z : Place) where
   -- Pieces, with their trivia, end where their looks and the look at the first token do, or before.
-  pub text-seen : (i most : ℕ) → AllEndBy most ((lead k z).asks ++ asks_of (pieces k i z)) → (end_at k i z).taken + gap_of (end_at k i z).state.known ≤ most
+  pub text-seen : (i most : ℕ) → AllEndBy most ((lead k z).asks ++ asks_of (first_of i (text_run k z))) → (first_end i (text_run k z)).taken + gap_of (first_end i (text_run k z)).state.known ≤ most
   text-seen i most h =
       let o = lead k z in
-      let gap : gap_of o.state.known ≤ most = omega (arith, (sees-level (rules k) k max_depth peek z start most (omega arith)).ends (looks-first (ending most) o.asks (asks_of (pieces k i z)) h)) in
-      made-seen (turn_of (text_run k z)) (λ x. sees-level (rules k) k max_depth (markup_turn true is_end x)) i (true, 0) z o.state most gap (looks-second (ending most) o.asks (asks_of (pieces k i z)) h)
+      let gap : gap_of o.state.known ≤ most = omega (arith, (sees-level (rules k) k max_depth peek z start most (omega arith)).ends (looks-first (ending most) o.asks (asks_of (first_of i (text_run k z))) h)) in
+      made-seen (turn_of (text_run k z)) (λ x. sees-level (rules k) k max_depth (markup_turn true is_end x)) i (true, 0) z o.state most gap (looks-second (ending most) o.asks (asks_of (first_of i (text_run k z))) h)
 
 module _ (k : CharClasses) (levels : ℕ) (c : Spot (Unit {0})) (z : Place) where
   pub block-sees : {A : Type 0} (p : Parser A) → Sees (run (block_level k levels) p)
@@ -196,59 +196,59 @@ pub takes-some : (k : CharClasses) (q : Sequence) → IsRun k q → (i : ℕ) �
 takes-some k q is i some go = grind arith
 
 -- The looks before fewer pieces end before the stretch, too.
-fewer-before : (k : CharClasses) (front old rest : List ℕ) (r : Run k (front ++ (old ++ rest))) (a d : ℕ) → Before k front old rest r (a + d) → Before k front old rest r a
-fewer-before k front old rest top a d before =
-    let z = text_with front old rest in
-    let all = λ (i : ℕ). (lead k z).asks ++ asks_of (pieces k i z) in
-    λ l. subst (AllEndBy (length front)) (shift-zero (all a)) (fewer-looks (text_run k z) a d (length front) 0 (lead k z).asks (subst (AllEndBy (length front)) (sym (shift-zero (all (a + d)))) (before (omega (arith, l)))))
-fewer-before k front old rest (inner c levels chosen name left) a d before =
-    let z = text_with front old rest in
+fewer-before : (k : CharClasses) (edit : TextReplacement) (r : Run k (text_before edit)) (a d : ℕ) → Before k edit r (a + d) → Before k edit r a
+fewer-before k edit top a d before =
+    let z = start_before edit in
+    let all = λ (i : ℕ). (lead k z).asks ++ asks_of (first_of i (text_run k z)) in
+    λ l. subst (AllEndBy (length edit.front)) (shift-zero (all a)) (fewer-looks (text_run k z) a d (length edit.front) 0 (lead k z).asks (subst (AllEndBy (length edit.front)) (sym (shift-zero (all (a + d)))) (before (omega (arith, l)))))
+fewer-before k edit (inner c levels chosen name left) a d before =
+    let z = start_before edit in
     record {
       before = before.before;
       opens = before.opens;
-      before_run = λ l. fewer-looks (run_at k levels c z) a d (length front) (opened_at k levels c z) (inner_lead k levels (moved c.at z) (point_of c.start)).asks (before.before_run (omega (arith, l)));
+      before_run = λ l. fewer-looks (run_at k levels c z) a d (length edit.front) (opened_at k levels c z) (inner_lead k levels (moved c.at z) (point_of c.start)).asks (before.before_run (omega (arith, l)));
     }
 
 -- So these pieces end there.
-room-before : (k : CharClasses) (front old rest : List ℕ) (r : Run k (front ++ (old ++ rest))) (i : ℕ) → 0 < i → AllGo (first_of i (read_as r (text_with front old rest))) → Before k front old rest r i → opened_by r (text_with front old rest) + (first_end i (read_as r (text_with front old rest))).taken ≤ length front
-room-before k front old rest top i some go before = omega (arith, text-seen k (text_with front old rest) i (length front) (before some))
-room-before k front old rest (inner c levels chosen name left) i some go before =
-    let z = text_with front old rest in
+room-before : (k : CharClasses) (edit : TextReplacement) (r : Run k (text_before edit)) (i : ℕ) → 0 < i → AllGo (first_of i (read_as r (start_before edit))) → Before k edit r i → opened_by r (start_before edit) + (first_end i (read_as r (start_before edit))).taken ≤ length edit.front
+room-before k edit top i some go before = omega (arith, text-seen k (start_before edit) i (length edit.front) (before some))
+room-before k edit (inner c levels chosen name left) i some go before =
+    let z = start_before edit in
     let opened = opened_at k levels c z in
     let q = run_at k levels c z in
     let asks = (inner_lead k levels (moved c.at z) (point_of c.start)).asks ++ asks_of (first_of i q) in
-    omega (arith, block-seen k levels c z i (length front - opened) (end-shift opened (length front - opened) (length front) asks (omega arith) (before.before_run some)), takes-some k q (is_block_run levels (moved c.at z) (point_of c.start)) i some go)
+    omega (arith, block-seen k levels c z i (length edit.front - opened) (end-shift opened (length edit.front - opened) (length edit.front) asks (omega arith) (before.before_run some)), takes-some k q (is_block_run levels (moved c.at z) (point_of c.start)) i some go)
 
 -- An expression there takes no errors back in the new text if it doesn't in the old one.
-pub still-clear : (k : CharClasses) (front old new rest : List ℕ) (r : Run k (front ++ (old ++ rest))) (i : ℕ) → 0 < i → AllGo (first_of i (read_as r (text_with front old rest))) → Before k front old rest r i → TakesNone i (read_as r (text_with front old rest)) → TakesNone i (read_as r (text_with front new rest))
-still-clear k front old new rest r i some go looks none h = let m = run-minds k front old new rest r i some go looks in ap (λ (x : End (Bool × ℕ)). x.state.empties) m.ends ∙ none (sym m.minds ∙ h)
+pub still-clear : (k : CharClasses) (edit : TextReplacement) (r : Run k (text_before edit)) (i : ℕ) → 0 < i → AllGo (first_of i (read_as r (start_before edit))) → Before k edit r i → TakesNone i (read_as r (start_before edit)) → TakesNone i (read_as r (start_after edit))
+still-clear k edit r i some go looks none h = let m = run-minds k edit r i some go looks in ap (λ (x : End (Bool × ℕ)). x.state.empties) m.ends ∙ none (sym m.minds ∙ h)
 
 -- ---- the law
 
-module _ (k : CharClasses) (front old new rest : List ℕ) (r : Run k (front ++ (old ++ rest))) (a d : ℕ) (go : AllGo (first_of (a + d) (read_as r (text_with front old rest)))) (looks : Before k front old rest r (a + d)) where
+module _ (k : CharClasses) (edit : TextReplacement) (r : Run k (text_before edit)) (a d : ℕ) (go : AllGo (first_of (a + d) (read_as r (start_before edit)))) (looks : Before k edit r (a + d)) where
   abbrev w : Place
-  w = text_with front new rest
+  w = start_after edit
 
   abbrev was : Sequence
-  was = read_as r (text_with front old rest)
+  was = read_as r (start_before edit)
 
   abbrev now : Sequence
   now = read_as r w
 
   was_facts : Facts was
-  was_facts = facts k was (is-run r (text_with front old rest))
+  was_facts = facts k was (is-run r (start_before edit))
 
   now_facts : Facts now
   now_facts = facts k now (is-run r w)
 
-  sooner : Before k front old rest r a
-  sooner = fewer-before k front old rest r a d looks
+  sooner : Before k edit r a
+  sooner = fewer-before k edit r a d looks
 
-  alike : SameStart k front old new rest r (a + d)
-  alike = same-start k front old new rest r (a + d) looks
+  alike : SameStart k edit r (a + d)
+  alike = same-start k edit r (a + d) looks
 
   same_fewer : first_of a now ≡ first_of a was
-  same_fewer = (same-start k front old new rest r a sooner).first
+  same_fewer = (same-start k edit r a sooner).first
 
   between : then_of a d now ≡ then_of a d was
   between =
@@ -279,7 +279,7 @@ module _ (k : CharClasses) (front old new rest : List ℕ) (r : Run k (front ++ 
   value-now : (m : ℕ) → (then_end a (d + m) now).value ≡ (then_end (a + d) m now).value
   value-now m = ap (λ (e : End (Bool × ℕ)). e.value) (then-end-split now a d m)
 
-  passes-then : (n m past : ℕ) (t u : Trivia) → PassesPieces k front old new rest r a n (d + m) past t u → EndsOld k front old rest r a n past t × EndsNew k front old new rest r a n d m past u
+  passes-then : (n m past : ℕ) (t u : Trivia) → PassesPieces k edit r a n (d + m) past t u → EndsOld k edit r a n past t × EndsNew k edit r a n d m past u
   passes-then n m past t u h = (
     record { old_go = h.old_go; after = h.after; known = h.known; ends = h.ends },
     record {
@@ -290,7 +290,7 @@ module _ (k : CharClasses) (front old new rest : List ℕ) (r : Run k (front ++ 
     },
   )
 
-  passes-if : (n m past : ℕ) (t u : Trivia) → EndsOld k front old rest r a n past t × EndsNew k front old new rest r a n d m past u → PassesPieces k front old new rest r a n (d + m) past t u
+  passes-if : (n m past : ℕ) (t u : Trivia) → EndsOld k edit r a n past t × EndsNew k edit r a n d m past u → PassesPieces k edit r a n (d + m) past t u
   passes-if n m past t u (o, e) = record {
     first_go = go_fewer;
     old_go = o.old_go;
@@ -305,7 +305,7 @@ module _ (k : CharClasses) (front old new rest : List ℕ) (r : Run k (front ++ 
   }
 
   -- Fewer end before the stretch.
-  too-few : (n m past : ℕ) (t u : Trivia) → PassesPieces k front old new rest r a n m past t u → m < d → ⊥
+  too-few : (n m past : ℕ) (t u : Trivia) → PassesPieces k edit r a n m past t u → m < d → ⊥
   too-few n m past t u h l =
       let some : 0 < a + d = omega (arith, l) in
       let up : suc (a + m) ≤ a + d = omega (arith, l) in
@@ -313,14 +313,14 @@ module _ (k : CharClasses) (front old new rest : List ℕ) (r : Run k (front ++ 
       let same = ap (λ (e : End (Bool × ℕ)). e.taken) (begins some) in
       let sum = ap (λ (e : End (Bool × ℕ)). e.taken) (end-split-at now a m) in
       let gap : gap_of (first_end (a + m) now).state.known ≡ u.gap = ap (λ (e : End (Bool × ℕ)). gap_of e.state.known) (end-split-at now a m) ∙ ap gap_of h.known_now in
-      absurd (omega (arith, more, least-taken (turn_of now) (suc (a + m)) (a + d) (true, 0) now.place now.point up, same, sum, gap, room-before k front old rest r (a + d) some go looks, alike.opened, h.shifted))
+      absurd (omega (arith, more, least-taken (turn_of now) (suc (a + m)) (a + d) (true, 0) now.place now.point up, same, sum, gap, room-before k edit r (a + d) some go looks, alike.opened, h.shifted))
 
   nodes-are : (m : ℕ) (t u : Trivia) → 0 < a + d → TakesNone (a + d) was → (first_end (a + d) was).state.known ≡ Some t → AllGo (then_of (a + d) m now) → (then_end (a + d) m now).state.known ≡ Some u
-      → nodes_now r a (d + m) u w ≡ nodes_now r a d t (text_with front old rest) ++ nodes_now r (a + d) m u w
+      → nodes_now r a (d + m) u w ≡ nodes_now r a d t (start_before edit) ++ nodes_now r (a + d) m u w
   nodes-are m t u some none known go_m known_now =
       let p = read_by (a + d) m now in
       let olds = (read_by a d was).nodes in
-      let f = followed-by (then_of a d was) (then_end a d was).state p (now_facts.back (a + d) m go_now go_m (still-clear k front old new rest r (a + d) some go looks none)) (now_facts.hints (a + d) m go_now go_m) in
+      let f = followed-by (then_of a d was) (then_end a d was).state p (now_facts.back (a + d) m go_now go_m (still-clear k edit r (a + d) some go looks none)) (now_facts.hints (a + d) m go_now go_m) in
       let whole : (read_by a (d + m) now).nodes ≡ olds ++ p.nodes = ap (λ (e : End (Bool × ℕ)). (together e.state (then_of a (d + m) now)).nodes) (then-end-split now a d m)
       ∙ ap (λ os. (together (then_end (a + d) m now).state os).nodes) (pieces-are m)
       ∙ ap (λ (o : Outcome (Unit {0})). o.nodes) (chain-append (then_of a d was) (then_of (a + d) m now) (plain (tt {0}) (then_end (a + d) m now).state)) ∙ f.nodes in
@@ -334,12 +334,12 @@ module _ (k : CharClasses) (front old new rest : List ℕ) (r : Run k (front ++ 
       let all : (olds ++ p.nodes) ++ u.nodes ≡ (olds ++ t.nodes) ++ later.rest = append_assoc olds p.nodes u.nodes ∙ ap (λ ts. olds ++ ts) later.is ∙ sym (append_assoc olds t.nodes later.rest) in
       grind (arith, drop-append-le, leading-most)
 
-  serves : ServesMore k front old new rest r a d
+  serves : ServesMore k edit r a d
   serves = record {
     fewer = sooner;
     opens = alike.opened;
     begins = begins;
-    clear = λ some none. still-clear k front old new rest r (a + d) some go looks none;
+    clear = λ some none. still-clear k edit r (a + d) some go looks none;
     pieces = pieces-are;
     passes = λ n m past t u. (passes-then n m past t u, passes-if n m past t u);
     least = λ n m past t u h. not-less d m (too-few n m past t u h);
@@ -347,7 +347,7 @@ module _ (k : CharClasses) (front old new rest : List ℕ) (r : Run k (front ++ 
   }
 
 pub one-reading-law : OneReadingLaw
-one-reading-law k front old new rest r a d go looks = serves k front old new rest r a d go looks
+one-reading-law k edit r a d go looks = serves k edit r a d go looks
 
 -- ---- read again
 
@@ -535,8 +535,8 @@ pub kept-nodes-law : KeptNodesLaw
 kept-nodes-law k text r a d t from mid root same some go known none s = kept k text r a d t from mid root some go known none s same
 
 pub put-behind-law : PutAfterLaw
-put-behind-law k front old new rest r a d m t u from mid to root same some go before known none s l go_m known_now =
-    let w = text_with front new rest in
-    let serves = one-reading-law k front old new rest r a d (go-before (read_as r (text_with front old rest)) a d go) before in
-    let kept = kept-nodes-law k (front ++ (old ++ rest)) r a d t from mid root same some go known none s in
+put-behind-law k edit r a d m t u from mid to root same some go before known none s l go_m known_now =
+    let w = start_after edit in
+    let serves = one-reading-law k edit r a d (go-before (read_as r (start_before edit)) a d go) before in
+    let kept = kept-nodes-law k (text_before edit) r a d t from mid root same some go known none s in
     ap (λ ts. replaced_at (path_to r) from to ts root) (serves.nodes m t u (omega (arith, some)) none known go_m known_now) ∙ kept.replaced to (nodes_now r (a + d) m u w) l

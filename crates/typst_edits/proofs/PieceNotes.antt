@@ -1,5 +1,5 @@
 -- From a note back to the pieces of a run: it is one of the run's notes by their numbers.
-use Rattle.typst_edits.proofs.Cited.{◌≡◌, ℕ, suc, ◌+◌, ◌<◌, ◌==◌, eq-eqb, Bool, true, false, if◌then◌else◌, List, ◌∷◌, length, sym, ◌∙◌, arith, Note, max_depth, start_of, log, run_at, Among, this, that, inner_end, of_level, Numbered, SaysOf, listed, piece_at, end_at, lead, turn_of, RunNotesLaw, InnerNotesLaw}
+use Rattle.typst_edits.proofs.Cited.{◌≡◌, ℕ, suc, ◌+◌, ◌<◌, ◌==◌, eq-eqb, Bool, true, false, if◌then◌else◌, List, ◌∷◌, length, sym, ◌∙◌, arith, Note, max_depth, start_of, log, run_at, Among, this, that, inner_end, of_level, Numbered, SaysOf, listed, piece_at, lead, turn_of, RunNotesLaw, InnerNotesLaw, text_run, first_end}
 use Rattle.typst_edits.proofs.NumberedNotes.{go-fewer, numbered-run-law, numbered-inner-law}
 
 -- a note has a number among several, the first of which has this one
@@ -26,7 +26,7 @@ pub run-notes-law : RunNotesLaw
 run-notes-law k text note i levels =
     let z = start_of text in
     let n = numbered-run-law k text in
-    let a = number-of (SaysOf text (λ j. end_at k j z)) note max_depth 0 (listed (log k text).notes) i levels n.each in
+    let a = number-of (SaysOf text (λ j. first_end j (text_run k z))) note max_depth 0 (listed (log k text).notes) i levels n.each in
     record { count = a.number; go = go-fewer (piece_at k) a.number n.count (true, 0) z (lead k z).state (omega (arith, a.less, n.all)) n.go; says = a.holds.says }
 
 pub inner-notes-law : InnerNotesLaw

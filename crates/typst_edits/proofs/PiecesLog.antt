@@ -1,9 +1,9 @@
 -- What is logged of pieces that are read again: of any run.
-use Rattle.typst_edits.proofs.Cited.{◌≡◌, ℕ, zero, suc, ◌+◌, Bool, false, List, [], ◌∷◌, ◌++◌, Some, refl, ap, sym, ◌∙◌, arith, map-append, Place, moved, look, token, Ask, shift, looked, at_trivia, no_log, logged, Outcome, start_point, run, Trivia, point_of, peek, moved-sum, max_depth, markup_reading, inner_lead, run_at, own_of, text_run, read_again, SamePieces, End, asks_of, lead, end_at, Sequence, first_end, then_of, is_text_run, is_block_run}
+use Rattle.typst_edits.proofs.Cited.{◌≡◌, ℕ, zero, suc, ◌+◌, Bool, false, List, [], ◌∷◌, ◌++◌, Some, refl, ap, ◌∙◌, arith, map-append, Place, moved, look, token, Ask, shift, looked, at_trivia, no_log, logged, Outcome, start_point, run, Trivia, point_of, peek, moved-sum, max_depth, markup_reading, inner_lead, run_at, own_of, text_run, read_again, SamePieces, End, asks_of, lead, Sequence, first_end, then_of, is_text_run, is_block_run, top}
 use Rattle.typst_kinds.specs.declared.mode.SyntaxMode.TheVariants as mode
 use Rattle.typst_language.proofs.Logs.{logged-shift}
-use Rattle.typst_edits.specs.InnerPiecesLog.{asks_again, InnerPiecesLogLaw}
-use Rattle.typst_edits.specs.PiecesLog.{PiecesLogLaw}
+use Rattle.typst_edits.specs.PiecesLog.{asks_again, PiecesLogLaw}
+use Rattle.typst_edits.specs.Frame.{inner}
 use Rattle.typst_edits.proofs.EmptyRuns.{hand-asks}
 use Rattle.typst_edits.proofs.Joint.{block-read, known-read, text-read, ReadAs}
 use Rattle.typst_edits.proofs.RunSplice.{hand-direct}
@@ -40,17 +40,13 @@ module _ (r : Sequence) (ls : List Ask) (j m lv : ℕ) (t : Trivia) where
       → logged lv r.place no_log (own_of r ls (suc j) m) ≡ logged lv here no_log (asks_again (suc j) m t r)
   again-log pieces read known reached = grind (arith, known-read, hand-asks, first-look, same-asks, map-append, shift-twice, logged-shift, moved-sum)
 
--- ---- a text's run, and a content block's
+-- ---- the law
 
 pub pieces-log-law : PiecesLogLaw
-pieces-log-law k z zero m t some g h known none = absurd (omega (arith, some))
-pieces-log-law k z (suc j) m t some g h known none =
+pieces-log-law k text r z zero m t some g h known none = absurd (omega (arith, some))
+pieces-log-law k text top z (suc j) m t some g h known none =
     again-log (text_run k z) (lead k z).asks j m max_depth t (resume-law k (text_run k z) (is_text_run z) (suc j) m t g h known none) (text-read k (suc j) 0 z) known (text-reached k z (suc j))
-    ∙ ap (λ p. logged max_depth p no_log ((lead k p).asks ++ asks_of (read_again (suc j) m t (text_run k z)))) (sym (moved-sum (end_at k (suc j) z).taken t.gap z))
-
-pub inner-pieces-log-law : InnerPiecesLogLaw
-inner-pieces-log-law k levels c z zero m t some g h known none = absurd (omega (arith, some))
-inner-pieces-log-law k levels c z (suc j) m t some g h known none =
+pieces-log-law k text (inner c levels a n l) z (suc j) m t some g h known none =
     let y = moved c.at z in
     let s = point_of c.start in
     again-log (run_at k levels c z) (inner_lead k levels y s).asks j m (suc levels) t (resume-law k (run_at k levels c z) (is_block_run levels y s) (suc j) m t g h known none) (block-read k levels (suc j) 0 y s) known (block-reached k levels y s (suc j))

@@ -1,5 +1,5 @@
 -- Pieces of a run that are read by themselves on a new text are those that the run has there: for any run.
-use Rattle.typst_edits.proofs.Cited.{◌≡◌, ℕ, zero, suc, ◌+◌, ◌<◌, if◌then◌else◌, ne_eqb, Bool, true, List, [], ◌∷◌, ◌++◌, length, drop, Some, refl, ap, sym, ◌∙◌, subst, arith, Place, moved, CharClasses, Tree, Outcome, Trivia, Point, gap_of, pending, hinted, moved-sum, drop-all, together, text_with, Run, read_as, opened_by, cut_at, end_by, is_over, nodes_now, Agrees, Before, After, first_place, TakesNone, fresh, read_again, AllGo, End, end_of, Sequence, first_of, first_end, then_of, then_end, GivesPieces, ReadsPieces, end_alone, read_alone, again_end}
+use Rattle.typst_edits.proofs.Cited.{◌≡◌, ℕ, zero, suc, ◌+◌, ◌<◌, if◌then◌else◌, ne_eqb, Bool, true, List, [], ◌∷◌, ◌++◌, length, drop, Some, refl, ap, sym, ◌∙◌, subst, arith, Place, moved, CharClasses, Tree, Outcome, Trivia, Point, gap_of, pending, hinted, moved-sum, drop-all, together, Run, read_as, opened_by, cut_at, end_by, is_over, nodes_now, Agrees, Before, After, first_place, TakesNone, fresh, read_again, AllGo, End, end_of, Sequence, first_of, first_end, then_of, then_end, GivesPieces, ReadsPieces, end_alone, read_alone, again_end, TextReplacement, text_before, start_before, start_after}
 use Rattle.typst_grammar.specs.Pieces.{given}
 use Rattle.typst_edits.proofs.Turns.{none-less}
 use Rattle.typst_edits.proofs.Children.{given-together}
@@ -20,12 +20,12 @@ given-nodes s os = let o = together s os in sym (given-together s os [] ∙ ap (
 
 -- ---- a run in two texts
 
-module _ (k : CharClasses) (front old new rest : List ℕ) (r : Run k (front ++ (old ++ rest))) where
+module _ (k : CharClasses) (edit : TextReplacement) (r : Run k (text_before edit)) where
   abbrev z : Place
-  z = text_with front old rest
+  z = start_before edit
 
   abbrev w : Place
-  w = text_with front new rest
+  w = start_after edit
 
   abbrev p : Sequence
   p = read_as r z
@@ -47,8 +47,8 @@ module _ (k : CharClasses) (front old new rest : List ℕ) (r : Run k (front ++ 
   pub record Rereads : Type 0 where
     -- where the run begins, and no errors stand before it
     pub start_known : q.point.known ≡ (fresh q.level q.place).known
-    pub start_same : p.point.empties ≡ 0 → Before k front old rest r 0 → (m : ℕ) → AllGo (then_of 0 m q) → then_of 0 m q ≡ read_alone q (true, 0) m q.place
-    pub start_goes : p.point.empties ≡ 0 → Before k front old rest r 0 → (m : ℕ) → AllGo (read_alone q (true, 0) m q.place) → AllGo (then_of 0 m q)
+    pub start_same : p.point.empties ≡ 0 → Before k edit r 0 → (m : ℕ) → AllGo (then_of 0 m q) → then_of 0 m q ≡ read_alone q (true, 0) m q.place
+    pub start_goes : p.point.empties ≡ 0 → Before k edit r 0 → (m : ℕ) → AllGo (read_alone q (true, 0) m q.place) → AllGo (then_of 0 m q)
 
   module _ (s : Rereads) where
     -- what begins after i pieces, in the new text
@@ -62,13 +62,13 @@ module _ (k : CharClasses) (front old new rest : List ℕ) (r : Run k (front ++ 
       pub cut : cut_at r i z ≡ opened_by r z + ((first_end i p).taken + gap_of (first_end i p).state.known)
       pub place : moved trivia.gap (first_place i q) ≡ moved (cut_at r i z) w
 
-    pub begun : (j : ℕ) → AllGo (first_of (suc j) p) → TakesNone (suc j) p → Before k front old rest r (suc j) → Begun (suc j)
+    pub begun : (j : ℕ) → AllGo (first_of (suc j) p) → TakesNone (suc j) p → Before k edit r (suc j) → Begun (suc j)
     begun j g none looks =
         let i = suc j in
-        let at = known-after q markup i (first-now k front old new rest r i looks g) in
+        let at = known-after q markup i (first-now k edit r i looks g) in
         let t = at.trivia in
-        let same : first_end i q ≡ first_end i p = ap (end_of (true, 0) p.point) (same-start k front old new rest r i looks).first in
-        let opened = (same-start k front old new rest r i looks).opened in
+        let same : first_end i q ≡ first_end i p = ap (end_of (true, 0) p.point) (same-start k edit r i looks).first in
+        let opened = (same-start k edit r i looks).opened in
         let e = first_end i q in
         let taken = ap (λ (v : End (Bool × ℕ)). v.taken) same in
         let gap = ap gap_of (sym (ap (λ (v : End (Bool × ℕ)). v.state.known) same) ∙ at.is) in
@@ -80,15 +80,15 @@ module _ (k : CharClasses) (front old new rest : List ℕ) (r : Run k (front ++ 
           opened = opened;
           same = same;
           known = at.is;
-          go = first-now k front old new rest r i looks g;
-          none = still-clear k front old new rest r i (omega arith) g looks none;
+          go = first-now k edit r i looks g;
+          none = still-clear k edit r i (omega arith) g looks none;
           cut = cut;
           place = sym steps ∙ ap (λ n. moved n w) (count ∙ sym cut);
         }
 
     -- where the run itself begins
-    start-place : Before k front old rest r 0 → q.place ≡ at_cut 0
-    start-place looks = let opened = (same-start k front old new rest r 0 looks).opened in place-of r w ∙ ap (λ n. moved n w) (omega (arith, opened))
+    start-place : Before k edit r 0 → q.place ≡ at_cut 0
+    start-place looks = let opened = (same-start k edit r 0 looks).opened in place-of r w ∙ ap (λ n. moved n w) (omega (arith, opened))
 
     -- pieces of the new text's run and those that are read from the place on, with what is carried there
     pub record Alike (i m : ℕ) (u : Trivia) : Type 0 where
@@ -97,10 +97,10 @@ module _ (k : CharClasses) (front old new rest : List ℕ) (r : Run k (front ++ 
       pub value : (then_end i m q).value ≡ (end_alone q (carried i) m (at_cut i)).value
       pub nodes : nodes_now r i m u w ≡ given (read_alone q (carried i) m (at_cut i)) [] ++ pending (end_alone q (carried i) m (at_cut i)).state.known
 
-    pub alike : (i m : ℕ) (u : Trivia) → AllGo (first_of i p) → p.point.empties ≡ 0 → (0 < i → TakesNone i p) → Before k front old rest r i → AllGo (then_of i m q) → (then_end i m q).state.known ≡ Some u → Alike i m u
+    pub alike : (i m : ℕ) (u : Trivia) → AllGo (first_of i p) → p.point.empties ≡ 0 → (0 < i → TakesNone i p) → Before k edit r i → AllGo (then_of i m q) → (then_end i m q).state.known ≡ Some u → Alike i m u
     alike zero zero u g clear none looks go known =
         let behind : (fresh q.level (at_cut 0)).known ≡ Some u = ap (λ y. (fresh q.level y).known) (sym (start-place looks)) ∙ sym s.start_known ∙ known in
-        record { go = tt; sum = omega (arith, (same-start k front old new rest r 0 looks).opened, ap gap_of behind); value = refl; nodes = sym (ap pending behind) }
+        record { go = tt; sum = omega (arith, (same-start k edit r 0 looks).opened, ap gap_of behind); value = refl; nodes = sym (ap pending behind) }
     alike zero (suc n) u g clear none looks go known =
         let m = suc n in
         let x : Bool × ℕ = (true, 0) in
@@ -112,7 +112,7 @@ module _ (k : CharClasses) (front old new rest : List ℕ) (r : Run k (front ++ 
         let behind : (end_alone q x m (at_cut 0)).state.known ≡ Some u = ap (λ (v : End (Bool × ℕ)). v.state.known) (sym ends) ∙ known in
         record {
           go = subst (λ us. AllGo us) os go;
-          sum = omega (arith, (same-start k front old new rest r 0 looks).opened, taken, ap gap_of behind);
+          sum = omega (arith, (same-start k edit r 0 looks).opened, taken, ap gap_of behind);
           value = ap (λ (v : End (Bool × ℕ)). v.value) ends;
           nodes = ap (λ ts. ts ++ u.nodes) (given-nodes (then_end 0 m q).state (then_of 0 m q)) ∙ ap (λ us. given us [] ++ u.nodes) os ∙ ap (λ ts. given (read_alone q x m (at_cut 0)) [] ++ ts) (sym (ap pending behind));
         }
@@ -132,7 +132,7 @@ module _ (k : CharClasses) (front old new rest : List ℕ) (r : Run k (front ++ 
         let b = begun j g (none (omega arith)) looks in
         let x = carried i in
         let y = moved b.trivia.gap (first_place i q) in
-        let ga = gives-again-law k (front ++ (old ++ rest)) r w i m b.trivia u (omega arith) (omega arith) b.go go b.known b.none in
+        let ga = gives-again-law k (text_before edit) r w i m b.trivia u (omega arith) (omega arith) b.go go b.known b.none in
         let value : (first_end i q).value ≡ x = ap (λ (v : End (Bool × ℕ)). v.value) b.same in
         let os : read_again i m b.trivia q ≡ read_alone q x m (at_cut i) = ap (λ v. read_alone q v m y) value ∙ ap (read_alone q x m) b.place in
         let ends : again_end i m b.trivia q ≡ end_alone q x m (at_cut i) = ap (λ v. end_alone q v m y) value ∙ ap (end_alone q x m) b.place in
@@ -148,7 +148,7 @@ module _ (k : CharClasses) (front old new rest : List ℕ) (r : Run k (front ++ 
               ∙ ap (λ ts. given (read_alone q x m (at_cut i)) [] ++ ts) (sym (ap pending behind));
         }
 
-    pub goes-there : (i m : ℕ) → AllGo (first_of i p) → p.point.empties ≡ 0 → (0 < i → TakesNone i p) → Before k front old rest r i → AllGo (read_alone q (carried i) m (at_cut i)) → AllGo (then_of i m q)
+    pub goes-there : (i m : ℕ) → AllGo (first_of i p) → p.point.empties ≡ 0 → (0 < i → TakesNone i p) → Before k edit r i → AllGo (read_alone q (carried i) m (at_cut i)) → AllGo (then_of i m q)
     goes-there zero m g clear none looks go = s.start_goes clear looks m (subst (λ y. AllGo (read_alone q (true, 0) m y)) (sym (start-place looks)) go)
     goes-there (suc j) m g clear none looks go =
         let i = suc j in
@@ -159,12 +159,12 @@ module _ (k : CharClasses) (front old new rest : List ℕ) (r : Run k (front ++ 
 
     -- ---- the reading of a candidate's pieces
 
-    module _ (i n past : ℕ) (t : Trivia) (ts : List Tree) (g : AllGo (first_of i p)) (clear : p.point.empties ≡ 0) (none : 0 < i → TakesNone i p) (looks : Before k front old rest r i) (m : ℕ) where
+    module _ (i n past : ℕ) (t : Trivia) (ts : List Tree) (g : AllGo (first_of i p)) (clear : p.point.empties ≡ 0) (none : 0 < i → TakesNone i p) (looks : Before k edit r i) (m : ℕ) where
       -- If m pieces are read by themselves, end and agree, these are their nodes.
-      pub gives-to : AllGo (then_of i n p) → (then_end i n p).state.known ≡ Some t → end_by r i n t z ≡ (length front + length old) + past → After k front old rest r i n past t → ReadsPieces k front old new rest r i n m past ts → GivesPieces k front old new rest r i n m past t ts
+      pub gives-to : AllGo (then_of i n p) → (then_end i n p).state.known ≡ Some t → end_by r i n t z ≡ (length edit.front + length edit.old) + past → After k edit r i n past t → ReadsPieces k edit r i n m past ts → GivesPieces k edit r i n m past t ts
       gives-to h known sum behind reads =
           let go = goes-there i m g clear none looks reads.go in
-          let u = then-known q markup i m (first-now k front old new rest r i looks g) go in
+          let u = then-known q markup i m (first-now k edit r i looks g) go in
           let a = alike i m u.trivia g clear none looks go u.is in
           record {
             behind = u.trivia;
@@ -183,7 +183,7 @@ module _ (k : CharClasses) (front old new rest : List ℕ) (r : Run k (front ++ 
             are = reads.nodes ∙ sym a.nodes;
           }
 
-      pub reads-to : GivesPieces k front old new rest r i n m past t ts → ReadsPieces k front old new rest r i n m past ts
+      pub reads-to : GivesPieces k edit r i n m past t ts → ReadsPieces k edit r i n m past ts
       reads-to gives =
           let a = alike i m gives.behind g clear none looks gives.passes.new_go gives.passes.known_now in
           record {

@@ -1,5 +1,5 @@
 -- A candidate among the children of a run is pieces of it: at the top of a text's tree those of the text's run.
-use Rattle.typst_edits.proofs.Cited.{◌≡◌, ◌↔◌, ℕ, zero, suc, ◌+◌, ◌-◌, ◌<◌, ◌≤◌, Bool, true, false, List, [], ◌∷◌, ◌++◌, length, length-append, append_assoc, take, Some, refl, ap, sym, ◌∙◌, subst, arith, inl, inr, Place, CharClasses, Tree, width, Trivia, gap_of, is_among, ChildRange, Candidate, begins, IsPieces, RootPiecesOfLaw, text_with, Run, read_as, opened_by, cut_at, is_over, bytes_of, AllGo, End, Sequence, turn_of, first_of, first_end, then_of, then_end, root_run, cases_lt, token_after, token_past, run_from, kids_of_run, first_place}
+use Rattle.typst_edits.proofs.Cited.{◌≡◌, ◌↔◌, ℕ, zero, suc, ◌+◌, ◌-◌, ◌<◌, ◌≤◌, Bool, true, false, List, [], ◌∷◌, ◌++◌, length, length-append, append_assoc, take, Some, refl, ap, sym, ◌∙◌, subst, arith, inl, inr, Place, CharClasses, Tree, width, Trivia, gap_of, is_among, ChildRange, Candidate, begins, IsPieces, RootPiecesOfLaw, Run, read_as, opened_by, cut_at, is_over, bytes_of, AllGo, End, Sequence, turn_of, first_of, first_end, then_of, then_end, root_run, cases_lt, token_after, token_past, run_from, kids_of_run, first_place, TextReplacement, text_before, start_before}
 use Rattle.typst_edits.proofs.Boundary.{KnownAt}
 use Rattle.typst_edits.proofs.CandidateEnds.{stretch, begins-last, from-less, from-cut, from-early, to-cut, to-late, Parted, begun}
 use Rattle.typst_edits.proofs.RunCandidates.{IsCut, OfRun, run-of, run-parted}
@@ -9,7 +9,6 @@ use Rattle.typst_edits.proofs.RunPieces.{cut-some, take-past, takes-of}
 use Rattle.typst_edits.proofs.Joint.{is-run, leads-of}
 use Rattle.typst_edits.proofs.Leading.{from-is, turn-over}
 use Rattle.typst_edits.proofs.NumberedNotes.{go-fewer}
-use Rattle.typst_edits.proofs.OpensApart.{opens-apart-law}
 use Rattle.typst_edits.proofs.Resumed.{known-after, markup-of}
 use Rattle.typst_edits.proofs.Widths.{width-append, early-by as sooner, as-far}
 
@@ -93,12 +92,12 @@ pub record Standing (q : Sequence) (i n : ℕ) : Type 0 where
 pub standing : (q : Sequence) (count i n : ℕ) → i + n ≤ count → AllGo (first_of count q) → ((m : ℕ) → AllGo (first_of m q) → KnownAt (first_end m q).state) → Standing q i n
 standing q count i n few go known = let sum : count ≡ (i + n) + (count - (i + n)) = omega (arith, few) in grind (arith, go-first, first-split, go-second, end-split-at)
 
-module _ (k : CharClasses) (front old rest : List ℕ) (r : Run k (front ++ (old ++ rest))) (c : Candidate) where
+module _ (k : CharClasses) (edit : TextReplacement) (r : Run k (text_before edit)) (c : Candidate) where
   abbrev text : List ℕ
-  text = front ++ (old ++ rest)
+  text = text_before edit
 
   abbrev z : Place
-  z = text_with front old rest
+  z = start_before edit
 
   abbrev q : Sequence
   q = read_as r z
@@ -113,7 +112,7 @@ module _ (k : CharClasses) (front old rest : List ℕ) (r : Run k (front ++ (old
     pub n : ℕ
     pub past : ℕ
     pub t : Trivia
-    pub is : IsPieces k front old rest r c i n past t
+    pub is : IsPieces k edit r c i n past t
 
   none-or-some : (P : Type 0) (i : ℕ) → (i ≡ 0 → P) → (0 < i → P) → P
   none-or-some P i f g = grind arith
@@ -123,7 +122,7 @@ module _ (k : CharClasses) (front old rest : List ℕ) (r : Run k (front ++ (old
   cut-first i e = grind arith
 
   -- So is a stretch of the run's children.
-  module _ (g : OfRun k front old rest r c) where
+  module _ (g : OfRun k edit r c) where
     abbrev from : ℕ
     from = run_from r
 
@@ -133,8 +132,8 @@ module _ (k : CharClasses) (front old rest : List ℕ) (r : Run k (front ++ (old
     abbrev cuts : List ℕ
     cuts = g.cuts.cuts
 
-    order : width front ≤ width (front ++ old)
-    order = omega (arith, width-append front old)
+    order : width edit.front ≤ width (edit.front ++ edit.old)
+    order = omega (arith, width-append edit.front edit.old)
 
     known : (m : ℕ) → AllGo (first_of m q) → KnownAt (first_end m q).state
     known = known-after q (markup-of k q (is-run r z))
@@ -144,7 +143,7 @@ module _ (k : CharClasses) (front old rest : List ℕ) (r : Run k (front ++ (old
     ends i n j sum = sym (ap (λ (e : End (Bool × ℕ)). width (take (opened_by r z + (e.taken + gap_of e.state.known)) text)) (end-split-at q i n)) ∙ ap (token_after r) sum
 
     parted : (i n : ℕ) (s : Standing q i n) → Parted q cuts from ts i n (token_after r i) (token_past r i n)
-    parted i n s = run-parted k text r (takes-of k front old rest r g.encloses) g.cuts i s.first_go n s.trivia s.go_on s.known
+    parted i n s = run-parted k text r (takes-of k edit r g.encloses) g.cuts i s.first_go n s.trivia s.go_on s.known
 
     -- After the last piece the run ends.
     over : is_over 0 g.cuts.count q ≡ true
@@ -154,13 +153,13 @@ module _ (k : CharClasses) (front old rest : List ℕ) (r : Run k (front ++ (old
     all-bytes : token_after r g.cuts.count ≡ from + bytes_of ts
     all-bytes = sym (ends 0 g.cuts.count g.cuts.count (omega arith)) ∙ (parted 0 g.cuts.count (standing q g.cuts.count 0 g.cuts.count (omega arith) g.cuts.go known)).last (λ l. absurd (omega (arith, l))) over
 
-    chosen : Picked (token_after r) g.cuts.count from ts (stretch cuts from ts (width front) (width (front ++ old)) g.stretch.more order)
-    chosen = picked cuts from ts (width front) (width (front ++ old)) g.stretch.more order (token_after r) g.cuts.count g.cuts.each (λ i j l few. tokens-rise k text r i j l (go-fewer (turn_of q) j g.cuts.count (true, 0) q.place q.point few g.cuts.go)) all-bytes
+    chosen : Picked (token_after r) g.cuts.count from ts (stretch cuts from ts (width edit.front) (width (edit.front ++ edit.old)) g.stretch.more order)
+    chosen = picked cuts from ts (width edit.front) (width (edit.front ++ edit.old)) g.stretch.more order (token_after r) g.cuts.count g.cuts.each (λ i j l few. tokens-rise k text r i j l (go-fewer (turn_of q) j g.cuts.count (true, 0) q.place q.point few g.cuts.go)) all-bytes
 
     pub has-pieces : HasPieces
     has-pieces =
-        let rs = width front in
-        let re = width (front ++ old) in
+        let rs = width edit.front in
+        let re = width (edit.front ++ edit.old) in
         let p = chosen in
         let i = p.i in
         let n = p.j - i in
@@ -174,11 +173,11 @@ module _ (k : CharClasses) (front old rest : List ℕ) (r : Run k (front ++ (old
         let ends_is : c.end ≡ begins from ts here.to = ap (λ (d : Candidate). d.end) o.is in
         let start_is : 0 < i → c.start ≡ width (take (token i) text) = λ l. begins_is ∙ sym (p.start l) in
         let end_is : c.end ≡ width (take (token p.j) text) = ends_is ∙ sym p.end in
-        let past = token p.j - (length front + length old) in
+        let past = token p.j - (length edit.front + length edit.old) in
         let late : re ≤ width (take (token p.j) text) = subst (λ d. re ≤ d) (sym ends_is ∙ end_is) (to-late cuts from ts rs re o.more order g.all) in
-        let far = as-far (token p.j) (front ++ old) rest (subst (λ xs. re ≤ width (take (token p.j) xs)) (sym (append_assoc front old rest)) late) in
-        let there : token p.j ≡ (length front + length old) + past = omega (arith, far, length-append front old) in
-        let early : 0 < i → token i < length front = λ l. sooner (token i) front (old ++ rest) (subst (λ b. b < rs) (sym begins_is ∙ start_is l) (from-early cuts from ts rs re o.more order (p.led.0 l))) in
+        let far = as-far (token p.j) (edit.front ++ edit.old) edit.rest (subst (λ xs. re ≤ width (take (token p.j) xs)) (sym (append_assoc edit.front edit.old edit.rest)) late) in
+        let there : token p.j ≡ (length edit.front + length edit.old) + past = omega (arith, far, length-append edit.front edit.old) in
+        let early : 0 < i → token i < length edit.front = λ l. sooner (token i) edit.front (edit.old ++ edit.rest) (subst (λ b. b < rs) (sym begins_is ∙ start_is l) (from-early cuts from ts rs re o.more order (p.led.0 l))) in
         record {
           i = i;
           n = n;
@@ -197,17 +196,17 @@ module _ (k : CharClasses) (front old rest : List ℕ) (r : Run k (front ++ (old
             );
             start = none-or-some (c.start ≡ width (take (cut_at r i z) text)) i (λ e. begins_is ∙ begins-first from ts here.from (none-led i here.from p.led.1 e) ∙ from-is r ∙ ap (λ d. width (take d text)) (sym (cut-first i e))) (λ l. start_is l ∙ ap (λ d. width (take d text)) (sym (cut-some r i z l)));
             led = ((λ l. subst (λ d. 0 < d) (sym from_is) (p.led.0 l)), (λ l. p.led.1 (subst (λ d. 0 < d) from_is l)));
-            end = end_is ∙ ap width (take-past front old rest past (token p.j) there);
+            end = end_is ∙ ap width (take-past edit.front edit.old edit.rest past (token p.j) there);
             none = λ l minded. absurd (let d : true ≡ false = sym minded ∙ (well.starts l).1 in cc);
             empty = λ none. (let e = none-or-some (i ≡ 0) i (λ e. e) (λ l. (let more = p.some l in absurd (omega (arith, more, none)))) in (e, subst (λ d. is_over 0 d q ≡ true) (p.empty (omega (arith, e, none))) over));
-            early = none-or-some (cut_at r i z ≤ length front) i (λ e. subst (λ d. d ≤ length front) (sym (cut-first i e)) g.before) (λ l. (let at = cut-some r i z l in omega (arith, early l, at)));
+            early = none-or-some (cut_at r i z ≤ length edit.front) i (λ e. subst (λ d. d ≤ length edit.front) (sym (cut-first i e)) g.before) (λ l. (let at = cut-some r i z l in omega (arith, early l, at)));
           };
         }
 
 -- ---- the law
 
 pub root-pieces-of-law : RootPiecesOfLaw
-root-pieces-of-law k front old rest root c same chosen no_block path =
-    let own = root_run k (front ++ (old ++ rest)) in
-    let h = has-pieces k front old rest own c (run-of opens-apart-law k front old rest root own c same chosen no_block path) in
+root-pieces-of-law k edit root c same chosen no_block path =
+    let own = root_run k (text_before edit) in
+    let h = has-pieces k edit own c (run-of k edit root own c same chosen no_block path) in
     record { i = h.i; n = h.n; past = h.past; t = h.t; is = h.is }

@@ -1,5 +1,5 @@
 -- The test of an edit inside some pieces of a run in bytes, by the notes of a reading: of any run, of a text's and of a content block's.
-use Rattle.typst_edits.proofs.Cited.{◌≡◌, ℕ, zero, suc, ◌+◌, ◌-◌, ◌<◌, ◌≤◌, ◌^◌, Bool, true, List, [], ◌∷◌, ◌++◌, length, take, append_assoc, refl, ap, sym, ◌∙◌, subst, arith, append-nil, Some, Place, moved, CharClasses, width, Ask, shift, Point, gap_of, state_of, Trivia, point_of, max_depth, start_of, parsed, log, rules, whole, highest, lowest, AllEndBy, text_with, AllBeginIn, note_at, looks_next, cut_after, AllGo, End, asks_of, chain, piece_at, start, lead, pieces, end_at, pieces_from, end_from, rest_from, tail, whole_of, after_pieces, Sequence, turn_of, first_of, first_end, then_of, then_end, rest_of, noting, notes_in, Spot, unit_at, around, ended, Outcome, repeated, run, start_point, moved-sum, text_run, onwards_at, run_mark, asked_past, map-append, Mark, State, ends_block, markup_turn, markup_reading, look_first, look_again, bracket, inner_lead, inner_run, inner_tail, inner_close, run_at, opened_at, tail_at, close_at, left_at, inner_both, onwards_past, left_past, blocks_of_text, block_at, PieceNote, JointDecisionLaw, noted_at, RunDecisionLaw}
+use Rattle.typst_edits.proofs.Cited.{◌≡◌, ℕ, zero, suc, ◌+◌, ◌-◌, ◌<◌, ◌≤◌, ◌^◌, Bool, true, List, [], ◌∷◌, ◌++◌, length, take, append_assoc, refl, ap, sym, ◌∙◌, subst, arith, append-nil, Some, Place, moved, CharClasses, width, Ask, shift, Point, gap_of, state_of, Trivia, point_of, max_depth, start_of, parsed, log, rules, whole, highest, lowest, AllEndBy, AllBeginIn, note_at, looks_next, cut_after, AllGo, End, asks_of, chain, piece_at, start, lead, tail, whole_of, Sequence, turn_of, first_of, first_end, then_of, then_end, rest_of, noting, notes_in, Spot, unit_at, around, ended, Outcome, repeated, run, start_point, moved-sum, text_run, onwards_at, run_mark, asked_past, map-append, Mark, State, ends_block, markup_turn, markup_reading, look_first, look_again, bracket, inner_lead, inner_run, inner_tail, inner_close, run_at, opened_at, tail_at, close_at, left_at, inner_both, onwards_past, left_past, blocks_of_text, block_at, PieceNote, JointDecisionLaw, noted_at, RunDecisionLaw, TextReplacement, text_before, start_before}
 use Rattle.typst_edits.specs.InnerBytes.{InnerDecisionLaw}
 use Rattle.typst_edits.proofs.Boundary.{Begins, begins-shift, looks_in, each-ends, made-add, go-add, noted-at, begins-append, pieces-begin, piece_mark}
 use Rattle.typst_edits.proofs.Bytes.{AllFrom, begin-by, begin-to, AllMarks, none-hand, marks-append}
@@ -134,13 +134,13 @@ module _ (k : CharClasses) (text : List ℕ) where
   abbrev asks_by : End (Bool × ℕ) → List Ask
   asks_by e = let q = repeated (piece_at k) e.value (moved e.taken text_start) e.state in q.asks ++ shift q.taken (tail k (e.taken + q.taken) q.state text_start).asks
 
-  all-asks : (j : ℕ) → AllGo (pieces k j text_start) → (parsed k max_depth text).asks ≡ lifted 0 0 (asks_in (text_run k text_start) start (lead k text_start).asks j (asks_by (end_at k j text_start))) ++ []
+  all-asks : (j : ℕ) → AllGo (first_of j (text_run k text_start)) → (parsed k max_depth text).asks ≡ lifted 0 0 (asks_in (text_run k text_start) start (lead k text_start).asks j (asks_by (first_end j (text_run k text_start)))) ++ []
   unfolding run
   all-asks j g =
-      let os = pieces k j text_start in
+      let os = first_of j (text_run k text_start) in
       let s = (lead k text_start).state in
-      let e = end_at k j text_start in
-      let q = after_pieces k j text_start in
+      let e = first_end j (text_run k text_start) in
+      let q = rest_of j 0 (text_run k text_start) in
       let c = chain os q in
       let t = tail k (e.taken + q.taken) q.state text_start in
       let split : repeated (piece_at k) (true, 0) text_start s ≡ c = repeated-chain (piece_at k) (within k) j (true, 0) text_start s g in
@@ -161,74 +161,74 @@ module _ (k : CharClasses) (text : List ℕ) where
   abbrev pub TextNote : ℕ → End (Bool × ℕ) → Type 0
   TextNote j e = NoteIn k text (text_run k text_start) start (lead k text_start).asks max_depth 0 [] [] asks_by (λ e. e.taken) j e
 
-  pub text-note : (j : ℕ) → AllGo (pieces k j text_start) → TextNote j (end_at k j text_start)
+  pub text-note : (j : ℕ) → AllGo (first_of j (text_run k text_start)) → TextNote j (first_end j (text_run k text_start))
   unfolding run
   text-note j g = note-in k text (text_run k text_start) start (lead k text_start).asks max_depth 0 [] [] asks_by (λ e. e.taken) refl (lead-bare k text_start) 0 refl (λ e. omega arith) begins all-asks j g
 
   -- the same for the n pieces that follow the first i
   abbrev pub both : ℕ → ℕ → End (Bool × ℕ)
-  both i n = let f = end_from k i n text_start in record f { taken = (end_at k i text_start).taken + f.taken }
+  both i n = let f = then_end i n (text_run k text_start) in record f { taken = (first_end i (text_run k text_start)).taken + f.taken }
 
-  pub text-both : (i n : ℕ) → AllGo (pieces k i text_start) → AllGo (pieces_from k i n text_start) → TextNote (i + n) (both i n)
+  pub text-both : (i n : ℕ) → AllGo (first_of i (text_run k text_start)) → AllGo (then_of i n (text_run k text_start)) → TextNote (i + n) (both i n)
   unfolding run
   text-both i n g h =
       note-both k text (text_run k text_start) start (lead k text_start).asks max_depth 0 [] [] asks_by (λ e. e.taken) refl (lead-bare k text_start) 0 refl (λ e. omega arith) begins all-asks i n g h
 
   -- as many notes stand before it as there are in them
-  pub text-count : (j : ℕ) (e : End (Bool × ℕ)) (n : TextNote j e) → length n.told.earlier ≡ notes_in (asks_of (pieces k j text_start))
-  text-count j e n = let none : 0 + notes_in (asks_of (pieces k j text_start)) ≡ notes_in (asks_of (pieces k j text_start)) = omega arith in n.count ∙ none
+  pub text-count : (j : ℕ) (e : End (Bool × ℕ)) (n : TextNote j e) → length n.told.earlier ≡ notes_in (asks_of (first_of j (text_run k text_start)))
+  text-count j e n = let none : 0 + notes_in (asks_of (first_of j (text_run k text_start))) ≡ notes_in (asks_of (first_of j (text_run k text_start))) = omega arith in n.count ∙ none
 
   -- where the token after them begins
-  pub text-token : (j : ℕ) (g : AllGo (pieces k j text_start)) → (text-note j g).told.note.start ≡ width (take (cut_after j (end_at k j text_start)) text)
+  pub text-token : (j : ℕ) (g : AllGo (first_of j (text_run k text_start))) → (text-note j g).told.note.start ≡ width (take (cut_after j (first_end j (text_run k text_start))) text)
   unfolding run
-  text-token j g = let e = end_at k j text_start in let n = text-note j g in cut-here text j e n.told.note.start n.start (λ z. n.start_first z ∙ ap (λ a. width (take a text)) (nothing-more e.taken))
+  text-token j g = let e = first_end j (text_run k text_start) in let n = text-note j g in cut-here text j e n.told.note.start n.start (λ z. n.start_first z ∙ ap (λ a. width (take a text)) (nothing-more e.taken))
 
   behind-is : (i n : ℕ) → asks_by (both i n) ≡ (onwards_at i n (text_run k text_start)).asks
   behind-is i n =
       let u = both i n in
-      ap (λ (q : Outcome (Bool × ℕ)). q.asks ++ shift q.taken (tail k (u.taken + q.taken) q.state text_start).asks) (ap (λ w. repeated (piece_at k) u.value w u.state) (moved-sum (end_at k i text_start).taken (end_from k i n text_start).taken text_start))
+      ap (λ (q : Outcome (Bool × ℕ)). q.asks ++ shift q.taken (tail k (u.taken + q.taken) q.state text_start).asks) (ap (λ w. repeated (piece_at k) u.value w u.state) (moved-sum (first_end i (text_run k text_start)).taken (then_end i n (text_run k text_start)).taken text_start))
 
   -- what its numbers say of the looks before it
-  pub reaches : (j : ℕ) (e : End (Bool × ℕ)) (n : TextNote j e) (front more : List ℕ) → text ≡ front ++ more → 0 < j → highest n.told.earlier n.told.note.reach ≤ width front → AllEndBy (length front) ((lead k text_start).asks ++ asks_of (pieces k j text_start))
-  reaches j e n front more same l h = subst (λ u. AllEndBy (length front) u) (shift-zero ((lead k text_start).asks ++ asks_of (pieces k j text_start))) ((n.reached front more same h).1 l)
+  pub reaches : (j : ℕ) (e : End (Bool × ℕ)) (n : TextNote j e) (front more : List ℕ) → text ≡ front ++ more → 0 < j → highest n.told.earlier n.told.note.reach ≤ width front → AllEndBy (length front) ((lead k text_start).asks ++ asks_of (first_of j (text_run k text_start)))
+  reaches j e n front more same l h = subst (λ u. AllEndBy (length front) u) (shift-zero ((lead k text_start).asks ++ asks_of (first_of j (text_run k text_start)))) ((n.reached front more same h).1 l)
 
-  pub reaches-too : (j : ℕ) (e : End (Bool × ℕ)) (n : TextNote j e) (front more : List ℕ) → text ≡ front ++ more → (0 < j → AllEndBy (length front) ((lead k text_start).asks ++ asks_of (pieces k j text_start))) → highest n.told.earlier n.told.note.reach ≤ width front
-  reaches-too j e n front more same h = n.reached_too front more same tt (λ l. subst (λ u. AllEndBy (length front) u) (sym (shift-zero ((lead k text_start).asks ++ asks_of (pieces k j text_start)))) (h l))
+  pub reaches-too : (j : ℕ) (e : End (Bool × ℕ)) (n : TextNote j e) (front more : List ℕ) → text ≡ front ++ more → (0 < j → AllEndBy (length front) ((lead k text_start).asks ++ asks_of (first_of j (text_run k text_start)))) → highest n.told.earlier n.told.note.reach ≤ width front
+  reaches-too j e n front more same h = n.reached_too front more same tt (λ l. subst (λ u. AllEndBy (length front) u) (sym (shift-zero ((lead k text_start).asks ++ asks_of (first_of j (text_run k text_start))))) (h l))
 
 -- ---- the law
 
 pub run-decision-law : RunDecisionLaw
-run-decision-law k front old rest i n past g h e =
-    let text = front ++ (old ++ rest) in
-    let z = text_with front old rest in
+run-decision-law k edit i n past g h e =
+    let text = text_before edit in
+    let z = start_before edit in
     let one = text-note k text i g in
     let two = text-both k text i n g h in
-    let r = rest_from k i n z in
-    let b = width (front ++ old) in
-    let end = (length front + length old) + past in
+    let r = rest_of i n (text_run k z) in
+    let b = width (edit.front ++ edit.old) in
+    let end = (length edit.front + length edit.old) + past in
     let asks = r.asks ++ shift r.taken (tail k (end + r.taken) r.state z).asks in
     let here = (both k text i n).taken in
     let asks_is : shift here (asks_by k text (both k text i n)) ≡ shift end asks = ap (shift here) (behind-is k text i n) ∙ ap (λ j. shift j (r.asks ++ shift r.taken (tail k (j + r.taken) r.state z).asks)) e in
     record {
       begins = one.told;
       ends = two.told;
-      before = λ l m. reaches k text i (end_at k i z) one front (old ++ rest) refl l m;
-      before_too = λ m. reaches-too k text i (end_at k i z) one front (old ++ rest) refl m;
-      after_too = λ l big m. two.begun_too b l big (subst (λ ls. AllFrom b z ls) (sym asks_is) (begin-to front old rest end past asks refl m)) tt;
-      after = λ l. begin-by front old rest end past asks refl (subst (λ ls. AllAt (length text) ls) asks_is two.placed) (subst (λ ls. AllFrom b z ls) asks_is (two.begun b l).0);
+      before = λ l m. reaches k text i (first_end i (text_run k z)) one edit.front (edit.old ++ edit.rest) refl l m;
+      before_too = λ m. reaches-too k text i (first_end i (text_run k z)) one edit.front (edit.old ++ edit.rest) refl m;
+      after_too = λ l big m. two.begun_too b l big (subst (λ ls. AllFrom b z ls) (sym asks_is) (begin-to edit.front edit.old edit.rest end past asks refl m)) tt;
+      after = λ l. begin-by edit.front edit.old edit.rest end past asks refl (subst (λ ls. AllAt (length text) ls) asks_is two.placed) (subst (λ ls. AllFrom b z ls) asks_is (two.begun b l).0);
     }
 
 -- what its numbers say of the looks after known trivia
-module _ (k : CharClasses) (front old rest : List ℕ) (i n past : ℕ) (t : Trivia) (known : (end_from k i n (text_with front old rest)).state.known ≡ Some t)
-    (sum : ((end_at k i (text_with front old rest)).taken + (end_from k i n (text_with front old rest)).taken) + t.gap ≡ (length front + length old) + past) (two : TextNote k (front ++ (old ++ rest)) (i + n) (both k (front ++ (old ++ rest)) i n)) where
+module _ (k : CharClasses) (edit : TextReplacement) (i n past : ℕ) (t : Trivia) (known : (then_end i n (text_run k (start_before edit))).state.known ≡ Some t)
+    (sum : ((first_end i (text_run k (start_before edit))).taken + (then_end i n (text_run k (start_before edit))).taken) + t.gap ≡ (length edit.front + length edit.old) + past) (two : TextNote k (text_before edit) (i + n) (both k (text_before edit) i n)) where
   abbrev text : List ℕ
-  text = front ++ (old ++ rest)
+  text = text_before edit
 
   abbrev z : Place
-  z = text_with front old rest
+  z = start_before edit
 
   abbrev end : ℕ
-  end = (length front + length old) + past
+  end = (length edit.front + length edit.old) + past
 
   abbrev asks : List Ask
   asks = asked_past k i n t z
@@ -238,32 +238,32 @@ module _ (k : CharClasses) (front old rest : List ℕ) (i n past : ℕ) (t : Tri
       let here = (both k text i n).taken in
       ap (shift here) (behind-is k text i n ∙ (onwards-fronted (text_run k z) (text-taking k) i n t known).asks) ∙ shift-twice here t.gap asks ∙ ap (λ j. shift j asks) sum
 
-  pub begins-past : width (front ++ old) < lowest two.told.later (log k text).least → AllBeginIn past rest asks
+  pub begins-past : width (edit.front ++ edit.old) < lowest two.told.later (log k text).least → AllBeginIn past edit.rest asks
   begins-past l =
-      let b = width (front ++ old) in
-      begin-by front old rest end past asks refl (subst (λ ls. AllAt (length text) ls) asks-are two.placed) (subst (λ ls. AllFrom b z ls) asks-are (two.begun b l).0)
+      let b = width (edit.front ++ edit.old) in
+      begin-by edit.front edit.old edit.rest end past asks refl (subst (λ ls. AllAt (length text) ls) asks-are two.placed) (subst (λ ls. AllFrom b z ls) asks-are (two.begun b l).0)
 
-  pub begins-past-too : 0 < i + n → width (front ++ old) < 2 ^ 64 - 1 → AllBeginIn past rest asks → width (front ++ old) < lowest two.told.later (log k text).least
-  begins-past-too l big m = let b = width (front ++ old) in two.begun_too b l big (subst (λ ls. AllFrom b z ls) (sym asks-are) (begin-to front old rest end past asks refl m)) tt
+  pub begins-past-too : 0 < i + n → width (edit.front ++ edit.old) < 2 ^ 64 - 1 → AllBeginIn past edit.rest asks → width (edit.front ++ edit.old) < lowest two.told.later (log k text).least
+  begins-past-too l big m = let b = width (edit.front ++ edit.old) in two.begun_too b l big (subst (λ ls. AllFrom b z ls) (sym asks-are) (begin-to edit.front edit.old edit.rest end past asks refl m)) tt
 
   pub trivia-end : 0 < i + n → two.told.note.start ≡ width (take ((both k text i n).taken + t.gap) text)
   trivia-end l = let here = (both k text i n).taken in two.start l ∙ ap (λ v. width (take (here + gap_of v) text)) known
 
 pub joint-decision-law : JointDecisionLaw
-joint-decision-law k front old rest i n past t g h known e =
-    let text = front ++ (old ++ rest) in
-    let z = text_with front old rest in
+joint-decision-law k edit i n past t g h known e =
+    let text = text_before edit in
+    let z = start_before edit in
     let one = text-note k text i g in
     let two = text-both k text i n g h in
     record {
       begins = one.told;
       ends = two.told;
       token = one.start;
-      trivia_end = trivia-end k front old rest i n past t known e two;
-      before = λ l m. reaches k text i (end_at k i z) one front (old ++ rest) refl l m;
-      before_too = λ m. reaches-too k text i (end_at k i z) one front (old ++ rest) refl m;
-      after = begins-past k front old rest i n past t known e two;
-      after_too = begins-past-too k front old rest i n past t known e two;
+      trivia_end = trivia-end k edit i n past t known e two;
+      before = λ l m. reaches k text i (first_end i (text_run k z)) one edit.front (edit.old ++ edit.rest) refl l m;
+      before_too = λ m. reaches-too k text i (first_end i (text_run k z)) one edit.front (edit.old ++ edit.rest) refl m;
+      after = begins-past k edit i n past t known e two;
+      after_too = begins-past-too k edit i n past t known e two;
     }
 
 -- ---- what is asked in a content block
@@ -444,15 +444,15 @@ past-trivia k levels i n c inner_z t known =
 
 pub inner-decision-law : InnerDecisionLaw
 unfolding blocks_of_text
-inner-decision-law k levels front old rest c i n chosen name level g h =
-    let text = front ++ (old ++ rest) in
-    let inner_z = text_with front old rest in
+inner-decision-law k levels edit c i n chosen name level g h =
+    let text = text_before edit in
+    let inner_z = start_before edit in
     let o = parsed k max_depth text in
     let l = among (Lawful inner_z inner_z o o) c _ chosen (inside-level (rules k) k (ends k) max_depth whole inner_z inner_z (start_point markup_reading)) in
     let reads = content-reads k text c chosen levels name level inner_z in
     let one = note-at k levels text c l.old reads level i g in
     let two = inner-note-both k levels text c l.old reads level i n g h in
-    let b = width (front ++ old) in
+    let b = width (edit.front ++ edit.old) in
     let end = c.at + (unit_at c inner_z).taken in
     let taken = unit-taken k levels text c l.old reads level i n g h in
     let u = inner_both k levels i n c inner_z in
@@ -474,22 +474,22 @@ inner-decision-law k levels front old rest c i n chosen name level g h =
       token_first = λ m. one.start_first m ∙ ap (λ n. width (take n text)) (first-at k levels text c l.old reads level (first_end i (run_at k levels c inner_z)));
       trivia_end = two.start;
       before = λ m.
-          (let n = length front in
-          let e = one.reached front (old ++ rest) refl m in
+          (let n = length edit.front in
+          let e = one.reached edit.front (edit.old ++ edit.rest) refl m in
           record { before = looks-first (ending n) c.before until e.0; opens = looks-raised (looks-shifted (ending n) c.at) c.fewer opens (looks-second (ending n) c.before until e.0); before_run = e.1 });
-      before_too = λ m. (let n = length front in one.reached_too front (old ++ rest) refl (looks-both (ending n) c.before until m.before (looks-lowered (looks-shifted (ending n) c.at) c.fewer opens m.opens)) m.before_run);
+      before_too = λ m. (let n = length edit.front in one.reached_too edit.front (edit.old ++ edit.rest) refl (looks-both (ending n) c.before until m.before (looks-lowered (looks-shifted (ending n) c.at) c.fewer opens m.opens)) m.before_run);
       after = λ past e m.
           record {
-            inside = begin-by front old rest u.taken past asks e placed (inside m);
-            behind = begin-by front old rest end (past + left_at k levels i n c inner_z) c.after (omega (arith, taken, e)) two.placed_after (two.begun b m).1;
+            inside = begin-by edit.front edit.old edit.rest u.taken past asks e placed (inside m);
+            behind = begin-by edit.front edit.old edit.rest end (past + left_at k levels i n c inner_z) c.after (omega (arith, taken, e)) two.placed_after (two.begun b m).1;
           };
-      after_too = λ past e m big f. begun_too m big (begin-to front old rest u.taken past asks e f.inside) (begin-to front old rest end (past + left_at k levels i n c inner_z) c.after (omega (arith, taken, e)) f.behind);
+      after_too = λ past e m big f. begun_too m big (begin-to edit.front edit.old edit.rest u.taken past asks e f.inside) (begin-to edit.front edit.old edit.rest end (past + left_at k levels i n c inner_z) c.after (omega (arith, taken, e)) f.behind);
       after_trivia = λ past t known e m.
           record {
-            inside = begin-by front old rest (u.taken + t.gap) past (asks_past k levels i n t c inner_z) e (subst (λ ls. AllAt (length text) ls) (further t known) placed) (subst (λ ls. AllFrom b inner_z ls) (further t known) (inside m));
-            behind = begin-by front old rest end (past + left_past k levels i n t c inner_z) c.after (omega (arith, taken, e, (fronted t known).taken)) two.placed_after (two.begun b m).1;
+            inside = begin-by edit.front edit.old edit.rest (u.taken + t.gap) past (asks_past k levels i n t c inner_z) e (subst (λ ls. AllAt (length text) ls) (further t known) placed) (subst (λ ls. AllFrom b inner_z ls) (further t known) (inside m));
+            behind = begin-by edit.front edit.old edit.rest end (past + left_past k levels i n t c inner_z) c.after (omega (arith, taken, e, (fronted t known).taken)) two.placed_after (two.begun b m).1;
           };
       after_trivia_too = λ past t known e m big f.
-          begun_too m big (subst (λ ls. AllFrom b inner_z ls) (sym (further t known)) (begin-to front old rest (u.taken + t.gap) past (asks_past k levels i n t c inner_z) e f.inside))
-          (begin-to front old rest end (past + left_past k levels i n t c inner_z) c.after (omega (arith, taken, e, (fronted t known).taken)) f.behind);
+          begun_too m big (subst (λ ls. AllFrom b inner_z ls) (sym (further t known)) (begin-to edit.front edit.old edit.rest (u.taken + t.gap) past (asks_past k levels i n t c inner_z) e f.inside))
+          (begin-to edit.front edit.old edit.rest end (past + left_past k levels i n t c inner_z) c.after (omega (arith, taken, e, (fronted t known).taken)) f.behind);
     }

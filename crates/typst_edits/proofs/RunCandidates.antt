@@ -1,5 +1,5 @@
 -- A candidate among the nodes of a run begins well, by what the run's pieces give: at the top of a text's tree and in a content block.
-use Rattle.typst_edits.proofs.Cited.{◌≡◌, ◌↔◌, ℕ, suc, ◌+◌, ◌<◌, ◌≤◌, true, false, List, length, Option, Some, ap, sym, ◌∙◌, subst, arith, inl, inr, zero, Bool, [], ◌++◌, take, refl, ◌-◌, ◌∷◌, length-append, append_assoc, None, Tree, none, trees, bare, Forest, more, text_of, Trivia, pending, gap_of, Candidate, begins, is_among, of_run, Child, laid, child_at, Every, is_over, first_place, GoesOnWell, StartsWell, StandsAt, AllGo, End, lead, pieces, end_at, Sequence, turn_of, first_of, first_end, then_of, then_end, CharClasses, width, Outcome, after_first, top_cuts, cuts_in, max_depth, start_of, tree, log, Settles, standing_by, Among, text_with, onwards_at, bytes_of, opening_child, of_level, cut_after, goes, listed, inner_head, Note, texts, candidates, opened_at, fill, path_of, under, block_with, inner_end, block_run, Around, kids_in, markup_from, blocks_of_text, OpensApartLaw, Spot, unit_at, Run, top, read_as, opened_by, path_to, token_after, token_past, run_from, kids_of_run, TakesSome, Encloses, IsRun, root_run}
+use Rattle.typst_edits.proofs.Cited.{◌≡◌, ◌↔◌, ℕ, suc, ◌+◌, ◌<◌, ◌≤◌, true, false, List, length, Option, Some, ap, sym, ◌∙◌, subst, arith, inl, inr, zero, Bool, [], ◌++◌, take, refl, ◌-◌, ◌∷◌, length-append, append_assoc, None, Tree, none, trees, bare, Forest, more, text_of, Trivia, pending, gap_of, Candidate, begins, is_among, of_run, Child, laid, child_at, Every, is_over, first_place, GoesOnWell, StartsWell, StandsAt, AllGo, End, lead, Sequence, turn_of, first_of, first_end, then_of, then_end, CharClasses, width, Outcome, after_first, top_cuts, cuts_in, max_depth, start_of, tree, log, Settles, standing_by, Among, onwards_at, bytes_of, opening_child, of_level, cut_after, goes, listed, inner_head, Note, texts, candidates, opened_at, fill, path_of, under, block_with, inner_end, block_run, Around, kids_in, markup_from, blocks_of_text, Spot, unit_at, Run, top, read_as, opened_by, path_to, token_after, token_past, run_from, kids_of_run, TakesSome, Encloses, IsRun, root_run, TextReplacement, text_before, start_before, candidates_between, text_run}
 use Rattle.typst_tree.specs.Tree.{joined}
 use Rattle.typst_edits.proofs.Boundary.{looks_in, each-ends, made-add, go-add, known-made}
 use Rattle.typst_edits.proofs.CandidateEnds.{stretch, GivesAt, GivesOne, Parted, Quiet, begun, parted, run-quiet}
@@ -100,7 +100,7 @@ pub record TopCuts (k : CharClasses) (text : List ℕ) : Type 0 where
 pub cuts-of-text : (k : CharClasses) (text : List ℕ) → TopCuts k text
 cuts-of-text k text =
     let n = numbered-run-law k text in
-    let e = λ (i : ℕ). end_at k i (start_of text) in
+    let e = λ (i : ℕ). first_end i (text_run k (start_of text)) in
     let ns = listed (log k text).notes in
     let b = behind-are text e n.count (of_level max_depth ns) n.all n.each in
     record { own = run-cuts k text top e (λ i. omega arith) n.count b.cuts b.is n.go n.over; are = ap after_first (starts-are text e max_depth 0 ns n.each) ∙ b.are }
@@ -211,14 +211,14 @@ seat-of k text c chosen full = let p = spot-place k text c chosen in record { so
 -- ---- a candidate among its markup's children
 
 -- The block is around the stretch, and the candidate is one of its run, which has these cuts.
-pub record OfBlock (k : CharClasses) (levels : ℕ) (front old rest : List ℕ) (s : Spot (Unit {0})) (c : Candidate) : Type 0 where
-  pub around : Around front old rest s
-  pub some : 0 < (unit_at s (start_of (front ++ (old ++ rest)))).taken
+pub record OfBlock (k : CharClasses) (levels : ℕ) (edit : TextReplacement) (s : Spot (Unit {0})) (c : Candidate) : Type 0 where
+  pub around : Around edit s
+  pub some : 0 < (unit_at s (start_of (text_before edit))).taken
   -- so is its markup
-  pub starts : markup_from k levels (front ++ (old ++ rest)) s < width front
-  pub ends : width (front ++ old) < markup_from k levels (front ++ (old ++ rest)) s + bytes_of (kids_in s.node)
-  pub own : BlockCuts k levels (front ++ (old ++ rest)) s (width (take s.at (front ++ (old ++ rest))))
-  pub chosen : Among c (of_run (width front) (width (front ++ old)) c.path (markup_from k levels (front ++ (old ++ rest)) s) (kids_in s.node) (Some own.cuts))
+  pub starts : markup_from k levels (text_before edit) s < width edit.front
+  pub ends : width (edit.front ++ edit.old) < markup_from k levels (text_before edit) s + bytes_of (kids_in s.node)
+  pub own : BlockCuts k levels (text_before edit) s (width (take s.at (text_before edit)))
+  pub chosen : Among c (of_run (width edit.front) (width (edit.front ++ edit.old)) c.path (markup_from k levels (text_before edit) s) (kids_in s.node) (Some own.cuts))
 
 -- in a block with such a node, its second child and what stands in that
 record InRun (ns : List Note) (rs re at from : ℕ) (inner_kids : List Tree) (c : Candidate) : Type 0 where
@@ -230,37 +230,37 @@ in-markup : (ns : List Note) (rs re at from : ℕ) (closed : Bool) (lead : Tree)
     → InRun ns rs re at from inner_kids c
 in-markup ns rs re at from closed lead inner_kids closing c m sum = grind (arith, some-is, trees-of)
 
-pub of-block : OpensApartLaw → (k : CharClasses) (levels : ℕ) (front old rest : List ℕ) (root : Tree) (s : Spot (Unit {0})) → Among s (blocks_of_text k (front ++ (old ++ rest))) → s.name ≡ block.Content → max_depth - s.fewer ≡ suc levels
-    → (c : Candidate) → bare root ≡ bare (tree k (front ++ (old ++ rest))) → Among c (candidates k (front ++ (old ++ rest)) (width front) (width (front ++ old)) root) → c.is_block ≡ false → c.path ≡ path_of s.hole ++ 1 ∷ []
-    → OfBlock k levels front old rest s c
-of-block apart k levels front old rest root s chosen name level c same candidate pieces path =
-    let text = front ++ (old ++ rest) in
+pub of-block : (k : CharClasses) (levels : ℕ) (edit : TextReplacement) (root : Tree) (s : Spot (Unit {0})) → Among s (blocks_of_text k (text_before edit)) → s.name ≡ block.Content → max_depth - s.fewer ≡ suc levels
+    → (c : Candidate) → bare root ≡ bare (tree k (text_before edit)) → Among c (candidates k edit root) → c.is_block ≡ false → c.path ≡ path_of s.hole ++ 1 ∷ []
+    → OfBlock k levels edit s c
+of-block k levels edit root s chosen name level c same candidate pieces path =
+    let text = text_before edit in
     let ns = listed (log k text).notes in
-    let rs = width front in
-    let re = width (front ++ old) in
+    let rs = width edit.front in
+    let re = width (edit.front ++ edit.old) in
     let was = tree k text in
     let hole = s.hole in
     let deep = under (inner_head kind.Markup) hole.left hole.deep hole.right in
-    let own_tree = tree-by-block k front old rest s chosen s.node refl in
-    let there : Among c (candidates k text rs re (fill deep s.node)) = subst (λ cs. Among c cs) (bare-candidates-law ns rs re root was same ∙ ap (candidates k text rs re) own_tree) candidate in
+    let own_tree = tree-by-block k edit s chosen s.node refl in
+    let there : Among c (candidates_between k text rs re (fill deep s.node)) = subst (λ cs. Among c cs) (bare-candidates-law ns rs re root was same ∙ ap (candidates_between k text rs re) own_tree) candidate in
     let m : InMarkup ns rs re (0 + length (left_text hole)) s.node c = at-second ns rs re deep s.node (top_cuts ns) 0 c refl there pieces path in
     let in_node = lies ((0 + length (left_text hole)) + length s.node.head.text) (trees s.node.kids) 1 m.child m.is in
     let held : length (text_of s.node) ≡ length s.node.head.text + length (texts (trees s.node.kids)) = length-append s.node.head.text _ ∙ ap (λ n. length s.node.head.text + n) (ap length (joined-trees s.node.kids)) in
-    let full : 0 < length (text_of s.node) = omega (arith, width-append front old, m.starts, m.ends, in_node.from, in_node.to, held) in
+    let full : 0 < length (text_of s.node) = omega (arith, width-append edit.front edit.old, m.starts, m.ends, in_node.from, in_node.to, held) in
     let seat = seat-of k text s chosen full in
     let shape = node-shape k levels text s chosen name level seat.some in
     let from = markup_from k levels text s in
     let at = width (take s.at text) in
     let here : 0 + length (left_text hole) ≡ at = omega (arith, seat.left_is) in
-    let cuts = cuts-of-block apart k levels text s chosen name level in
+    let cuts = cuts-of-block k levels text s chosen name level in
     let early : at < rs = omega (arith, here, in_node.from, m.starts) in
     let late : re < width (take (s.at + (unit_at s (start_of text)).taken) text) = omega (arith, here, in_node.to, m.ends, held, seat.both) in
-    let apart_text : (front ++ old) ++ rest ≡ text = append_assoc front old rest in
-    let behind = further (s.at + (unit_at s (start_of text)).taken) (front ++ old) rest (subst (λ xs. re < width (take (s.at + (unit_at s (start_of text)).taken) xs)) (sym apart_text) late) in
+    let apart_text : (edit.front ++ edit.old) ++ edit.rest ≡ text = append_assoc edit.front edit.old edit.rest in
+    let behind = further (s.at + (unit_at s (start_of text)).taken) (edit.front ++ edit.old) edit.rest (subst (λ xs. re < width (take (s.at + (unit_at s (start_of text)).taken) xs)) (sym apart_text) late) in
     let in_shape = subst (λ x. InMarkup ns rs re at x c) shape.node (subst (λ a. InMarkup ns rs re a s.node c) here m) in
     let run = in-markup ns rs re at from shape.closed shape.bracket (kids_in s.node) shape.closing c in_shape shape.opening in
     record {
-      around = record { starts = sooner s.at front (old ++ rest) early; ends = omega (arith, length-append front old, behind) };
+      around = record { starts = sooner s.at edit.front (edit.old ++ edit.rest) early; ends = omega (arith, length-append edit.front edit.old, behind) };
       some = seat.some;
       starts = run.starts;
       ends = run.ends;
@@ -277,47 +277,47 @@ kids-bytes k text =
     omega (arith, ap length (leaves k text), width-encodes text, length-append t.head.text (joined t.kids), head-none k text, ap length (joined-trees t.kids))
 
 -- A candidate is a stretch of a run's nodes, which are around the stretch that is replaced.
-pub record OfRun (k : CharClasses) (front old rest : List ℕ) (r : Run k (front ++ (old ++ rest))) (c : Candidate) : Type 0 where
-  pub encloses : Encloses k front old rest r
-  pub cuts : RunCuts k (front ++ (old ++ rest)) r
-  pub stretch : OfStretch (width front) (width (front ++ old)) (path_to r) (run_from r) (kids_of_run r) cuts.cuts c
-  pub before : opened_by r (text_with front old rest) ≤ length front
-  pub all : width (front ++ old) ≤ run_from r + bytes_of (kids_of_run r)
+pub record OfRun (k : CharClasses) (edit : TextReplacement) (r : Run k (text_before edit)) (c : Candidate) : Type 0 where
+  pub encloses : Encloses k edit r
+  pub cuts : RunCuts k (text_before edit) r
+  pub stretch : OfStretch (width edit.front) (width (edit.front ++ edit.old)) (path_to r) (run_from r) (kids_of_run r) cuts.cuts c
+  pub before : opened_by r (start_before edit) ≤ length edit.front
+  pub all : width (edit.front ++ edit.old) ≤ run_from r + bytes_of (kids_of_run r)
 
-pub run-of : OpensApartLaw → (k : CharClasses) (front old rest : List ℕ) (root : Tree) (r : Run k (front ++ (old ++ rest))) (c : Candidate) → bare root ≡ bare (tree k (front ++ (old ++ rest)))
-    → Among c (candidates k (front ++ (old ++ rest)) (width front) (width (front ++ old)) root) → c.is_block ≡ false → c.path ≡ path_to r → OfRun k front old rest r c
-run-of apart k front old rest root top c same chosen pieces path =
-    let text = front ++ (old ++ rest) in
+pub run-of : (k : CharClasses) (edit : TextReplacement) (root : Tree) (r : Run k (text_before edit)) (c : Candidate) → bare root ≡ bare (tree k (text_before edit))
+    → Among c (candidates k edit root) → c.is_block ≡ false → c.path ≡ path_to r → OfRun k edit r c
+run-of k edit root top c same chosen pieces path =
+    let text = text_before edit in
     let cuts = cuts-of-text k text in
     record {
       encloses = tt;
       cuts = cuts.own;
-      stretch = of-the-root k text (width front) (width (front ++ old)) root c cuts same chosen pieces path;
+      stretch = of-the-root k text (width edit.front) (width (edit.front ++ edit.old)) root c cuts same chosen pieces path;
       before = omega arith;
-      all = omega (arith, kids-bytes k text, ap width (append_assoc front old rest), width-append (front ++ old) rest);
+      all = omega (arith, kids-bytes k text, ap width (append_assoc edit.front edit.old edit.rest), width-append (edit.front ++ edit.old) edit.rest);
     }
-run-of apart k front old rest root (inner s levels chosen_too name level) c same chosen pieces path =
-    let text = front ++ (old ++ rest) in
-    let b = of-block apart k levels front old rest root s chosen_too name level c same chosen pieces path in
+run-of k edit root (inner s levels chosen_too name level) c same chosen pieces path =
+    let text = text_before edit in
+    let b = of-block k levels edit root s chosen_too name level c same chosen pieces path in
     let kids = kids_in s.node in
     let from = markup_from k levels text s in
-    let before = sooner (opened_at k levels s (text_with front old rest)) front (old ++ rest) b.starts in
+    let before = sooner (opened_at k levels s (start_before edit)) edit.front (edit.old ++ edit.rest) b.starts in
     record {
       encloses = b.around;
       cuts = run-cuts k text (block_run s levels chosen_too name level) (λ i. inner_end k levels i s (start_of text)) (λ i. omega arith) b.own.count b.own.cuts b.own.is b.own.go b.own.over;
-      stretch = subst (λ p. OfStretch (width front) (width (front ++ old)) p from kids b.own.cuts c) path (of-run (width front) (width (front ++ old)) c.path from kids b.own.cuts c b.chosen);
+      stretch = subst (λ p. OfStretch (width edit.front) (width (edit.front ++ edit.old)) p from kids b.own.cuts c) path (of-run (width edit.front) (width (edit.front ++ edit.old)) c.path from kids b.own.cuts c b.chosen);
       before = omega (arith, before);
       all = omega (arith, b.ends);
     }
 
-pub begins-well-law : OpensApartLaw → BeginsWellLaw
-begins-well-law apart k front old new rest root r c i n m past t u same chosen pieces path start led end h =
-    let text = front ++ (old ++ rest) in
-    let z = text_with front old rest in
+pub begins-well-law : BeginsWellLaw
+begins-well-law k edit root r c i n m past t u same chosen pieces path start led end h =
+    let text = text_before edit in
+    let z = start_before edit in
     let q = read_as r z in
-    let o = run-of apart k front old rest root r c same chosen pieces path in
+    let o = run-of k edit root r c same chosen pieces path in
     let stop = opened_by r z + (((first_end i q).taken + (then_end i n q).taken) + gap_of (then_end i n q).state.known) in
-    let w = well q o.cuts.cuts (run_from r) (kids_of_run r) (width front) (width (front ++ old)) (path_to r) c i n (token_after r i) (token_past r i n) (omega (arith, width-append front old)) o.stretch
-    (run-parted k text r (takes-of k front old rest r o.encloses) o.cuts i h.first_go n t h.old_go h.known) led (λ l. start ∙ ap (λ d. width (take d text)) (cut-some r i z l))
-    (end ∙ sym (ap width (take-past front old rest past stop (omega (arith, ap gap_of h.known, h.ends))))) in
+    let w = well q o.cuts.cuts (run_from r) (kids_of_run r) (width edit.front) (width (edit.front ++ edit.old)) (path_to r) c i n (token_after r i) (token_past r i n) (omega (arith, width-append edit.front edit.old)) o.stretch
+    (run-parted k text r (takes-of k edit r o.encloses) o.cuts i h.first_go n t h.old_go h.known) led (λ l. start ∙ ap (λ d. width (take d text)) (cut-some r i z l))
+    (end ∙ sym (ap width (take-past edit.front edit.old edit.rest past stop (omega (arith, ap gap_of h.known, h.ends))))) in
     (o.encloses, record { starts = w.starts; goes_on = w.goes_on; first = w.first; next = w.next; last = w.last })

@@ -1,5 +1,5 @@
 -- The entries of a run, by their numbers: of a text's run and of a content block's.
-use Rattle.typst_edits.proofs.Cited.{◌≡◌, ℕ, suc, ◌+◌, ◌≤◌, ◌==◌, Bool, true, false, List, [], append-nil, refl, ap, sym, ◌∙◌, subst, arith, ◌-◌, ◌<◌, ◌∷◌, ◌++◌, length, drop, length-append, append_assoc, Some, eqb-true, eqb-false, moved, Place, CharClasses, Note, Meaning, hand_of, run, moved-sum, entries_by, IsRising, ends, max_depth, start_of, log, entries_in, SaysBlock, is_over, InOrderLaw, text_run, of_level, NumberedInner, goes, listed, number_of, RunNumbersLaw, number_in, InnerNumbersLaw, cut_of, cut_in, AllGo, pieces, piece_at, end_at, lead, asks_of, Sequence, turn_of, first_of, first_end, then_end, Block, shift, point_of, closing_of, run_at, Among, inner_end, blocks_of_text, BeginsAt, notes_in, Spot, is_text_run, is_block_run, NumberedRun, lt_of_le-ne}
+use Rattle.typst_edits.proofs.Cited.{◌≡◌, ℕ, suc, ◌+◌, ◌≤◌, ◌==◌, Bool, true, false, List, [], append-nil, refl, ap, sym, ◌∙◌, subst, arith, ◌-◌, ◌<◌, ◌∷◌, ◌++◌, length, drop, length-append, append_assoc, Some, eqb-true, eqb-false, moved, Place, CharClasses, Note, Meaning, hand_of, run, moved-sum, entries_by, IsRising, ends, max_depth, start_of, log, entries_in, SaysBlock, is_over, text_run, of_level, NumberedInner, goes, listed, number_of, RunNumbersLaw, number_in, InnerNumbersLaw, cut_of, cut_in, AllGo, piece_at, lead, asks_of, Sequence, turn_of, first_of, first_end, then_end, Block, shift, point_of, closing_of, run_at, Among, inner_end, blocks_of_text, BeginsAt, notes_in, Spot, is_text_run, is_block_run, NumberedRun, lt_of_le-ne, replacing}
 use Rattle.typst_edits.proofs.BlockTest.{BlockEntries, block-entries, units-listed}
 use Rattle.typst_edits.proofs.Boundary.{looks_in, each-ends, made-add, first-of, going-on, known-made}
 use Rattle.typst_edits.proofs.Cuts.{cuts-law, inner-cuts-law, few-go}
@@ -12,6 +12,7 @@ use Rattle.typst_edits.proofs.RunBytes.{text-note, text-count, asks_before, asks
 use Rattle.typst_language.specs.declared.calls.Block.TheVariants as block
 use Rattle.typst_edits.proofs.Splice.{count-append, count-shift}
 use Rattle.typst_edits.proofs.Every.{neither}
+use Rattle.typst_edits.proofs.InOrder.{in-order-law}
 
 -- ---- where a run is over
 
@@ -43,24 +44,28 @@ module _ (r : Sequence) (leads : Leads r) where
 
 -- ---- a text's run
 
-module _ (ordered : InOrderLaw) (k : CharClasses) (text : List ℕ) where
+module _ (k : CharClasses) (text : List ℕ) where
   abbrev ns : List Note
   ns = listed (log k text).notes
 
   abbrev n : NumberedRun k text
   n = numbered-run-law k text
 
-  goes-up-to : (i : ℕ) → i ≤ n.count → AllGo (pieces k i (start_of text))
+  goes-up-to : (i : ℕ) → i ≤ n.count → AllGo (first_of i (text_run k (start_of text)))
   goes-up-to i l = go-fewer (piece_at k) i n.count (true, 0) (start_of text) (lead k (start_of text)).state l n.go
 
   -- the note where a given number of pieces end
   note-at : (i : ℕ) → i ≤ n.count → NoteAt max_depth 0 ns i (number_of k text i)
-  note-at i l = grind (arith, goes-up-to, text-note, number-law, text-count)
+  note-at i l =
+      let g = goes-up-to i l in
+      let here = text-note k text i g in
+      let p = here.told in
+      record { earlier = p.earlier; note = p.note; later = p.later; is = ap listed p.notes; own = p.levels; index = number-law k text i g p; all = omega (arith, text-count k text i (first_end i (text_run k (start_of text))) here) }
 
-  among : RunAmong max_depth [] ns [] text (λ i. end_at k i (start_of text)) n.count (number_of k text)
+  among : RunAmong max_depth [] ns [] text (λ i. first_end i (text_run k (start_of text))) n.count (number_of k text)
   among = record {
     nested = nested-law k text;
-    rising = subst (λ us. IsRising 0 us) (sym (append-nil ns)) (ordered k text);
+    rising = subst (λ us. IsRising 0 us) (sym (append-nil ns)) (in-order-law k text);
     each = n.each;
     long = n.all;
     at = note-at;
@@ -68,26 +73,26 @@ module _ (ordered : InOrderLaw) (k : CharClasses) (text : List ℕ) where
     over = λ number. refl;
   }
 
-  found : FoundPieces (entries_in k text) (number_of k text) (cut_of k text) (λ i. (end_at k i (start_of text)).value) n.count
+  found : FoundPieces (entries_in k text) (number_of k text) (cut_of k text) (λ i. (first_end i (text_run k (start_of text))).value) n.count
   found =
-      subst (λ es. FoundPieces es (number_of k text) (cut_of k text) (λ i. (end_at k i (start_of text)).value) n.count) (ap (entries_by 0) (append-nil ns) ∙ sym (units-listed (log k text)))
-      (found-pieces max_depth [] ns [] text (λ i. end_at k i (start_of text)) n.count (number_of k text) among)
+      subst (λ es. FoundPieces es (number_of k text) (cut_of k text) (λ i. (first_end i (text_run k (start_of text))).value) n.count) (ap (entries_by 0) (append-nil ns) ∙ sym (units-listed (log k text)))
+      (found-pieces max_depth [] ns [] text (λ i. first_end i (text_run k (start_of text))) n.count (number_of k text) among)
 
   text-over : (i m : ℕ) → i + m ≤ n.count → is_over i m (text_run k (start_of text)) ≡ (i + m == n.count)
   unfolding run
   text-over i m l =
       over-at (text_run k (start_of text)) (leads-of k (text_run k (start_of text)) (is_text_run (start_of text))) n.count i m n.go n.over l
 
-pub run-numbers-law : InOrderLaw → RunNumbersLaw
-run-numbers-law ordered k text =
+pub run-numbers-law : RunNumbersLaw
+run-numbers-law k text =
     let z = start_of text in
     let n = numbered-run-law k text in
-    let f = found ordered k text in
+    let f = found k text in
     record {
       count = n.count;
       go = n.go;
       most = λ i g. few-go (piece_at k) n.count i (true, 0) z (lead k z).state g n.over;
-      over = text-over ordered k text;
+      over = text-over k text;
       begins = λ i l. f.goes_on 0 i (omega arith) l;
       goes_on = f.goes_on;
       rises = f.rises;
@@ -118,7 +123,7 @@ inside-behind (p ∷ pre) ns suf (y ∷ es) inner_n ls x e long l = inside-behin
 
 -- ---- a content block's run
 
-module _ (ordered : InOrderLaw) (k : CharClasses) (levels : ℕ) (text : List ℕ) (s : Spot (Unit {0})) (chosen : Among s (blocks_of_text k text)) (name : s.name ≡ block.Content) (left : max_depth - s.fewer ≡ suc levels) where
+module _ (k : CharClasses) (levels : ℕ) (text : List ℕ) (s : Spot (Unit {0})) (chosen : Among s (blocks_of_text k text)) (name : s.name ≡ block.Content) (left : max_depth - s.fewer ≡ suc levels) where
   abbrev known : NestedNumbers k levels text s
   known = nested-numbers k levels text s chosen name left
 
@@ -138,7 +143,7 @@ module _ (ordered : InOrderLaw) (k : CharClasses) (levels : ℕ) (text : List �
   z0 = start_of text
 
   abbrev own : BlockEntries k text s
-  own = block-entries ordered k text s chosen
+  own = block-entries k text s chosen
 
   notes-are : listed (log k text).notes ≡ all
   notes-are = ap listed inner_n.notes
@@ -147,7 +152,7 @@ module _ (ordered : InOrderLaw) (k : CharClasses) (levels : ℕ) (text : List �
   all-is = append_assoc inner_n.earlier (inner_n.opens ∷ []) tail
 
   rising : IsRising 0 all
-  rising = subst (λ us. IsRising 0 us) notes-are (ordered k text)
+  rising = subst (λ us. IsRising 0 us) notes-are (in-order-law k text)
 
   pre-long : length pre ≡ suc (length inner_n.earlier)
   pre-long = let nothing : List Note = [] in let long = length-append inner_n.earlier (inner_n.opens ∷ nothing) in omega (arith, long)
@@ -175,7 +180,7 @@ module _ (ordered : InOrderLaw) (k : CharClasses) (levels : ℕ) (text : List �
   inner-note-at i l =
       let g = inner-goes-up-to i l in
       let lv = suc levels in
-      let d = inner-decision-law k levels [] [] text s i 0 chosen name left g tt in
+      let d = inner-decision-law k levels (replacing [] [] [] text) s i 0 chosen name left g tt in
       let p = d.begins in
       let x = notes_in (asks_of (first_of i (run_at k levels s z0))) in
       let before = known.number in
@@ -234,12 +239,12 @@ module _ (ordered : InOrderLaw) (k : CharClasses) (levels : ℕ) (text : List �
   block-over i m l =
       over-at (run_at k levels s z0) (leads-of k (run_at k levels s z0) (is_block_run levels (moved s.at z0) (point_of s.start))) inner_n.count i m inner_n.go inner_n.over l
 
-pub inner-numbers-law : InOrderLaw → InnerNumbersLaw
-inner-numbers-law ordered k levels text s chosen name left =
+pub inner-numbers-law : InnerNumbersLaw
+inner-numbers-law k levels text s chosen name left =
     let r = run_at k levels s (start_of text) in
     let inner_n = (nested-numbers k levels text s chosen name left).numbers in
-    let b = block-entries ordered k text s chosen in
-    let f = inner-found ordered k levels text s chosen name left in
+    let b = block-entries k text s chosen in
+    let f = inner-found k levels text s chosen name left in
     record {
       opens = b.from;
       closes = b.to;
@@ -251,12 +256,12 @@ inner-numbers-law ordered k levels text s chosen name left =
       count = inner_n.count;
       go = inner_n.go;
       most = λ i g. few-go (turn_of r) inner_n.count i (true, 0) r.place r.point g inner_n.over;
-      over = block-over ordered k levels text s chosen name left;
-      begins = begins-at ordered k levels text s chosen name left;
+      over = block-over k levels text s chosen name left;
+      begins = begins-at k levels text s chosen name left;
       goes_on = f.goes_on;
       rises = f.rises;
       last = f.last;
       not_last = f.not_last;
-      closing = closes-at ordered k levels text s chosen name left;
+      closing = closes-at k levels text s chosen name left;
       says = f.says;
     }

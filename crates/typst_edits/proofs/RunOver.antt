@@ -2,7 +2,7 @@
 use Rattle.typst_edits.proofs.Cited.{◌≡◌, ℕ, suc, ◌+◌, ◌<◌, ◌≤◌, Bool, true, false, nat_lt, length, sym, ◌∙◌, arith, moved, CharClasses, Block, Meaning, Level, start_point, run, gap_of, Within, peek, Sane, sane-run, sane-meaning, sane-block, sane-plain, RunKind, rules, markup_turn, markup_reading, first_look, run_level, stops_of, end_on, IsOver}
 use Rattle.typst_grammar.specs.Pieces.{AllGo, blocks_in}
 use Rattle.typst_grammar.specs.declared.part.RunKind.TheVariants as of
-use Rattle.typst_edits.specs.RunTest.{Reading, read_by, OverLaw}
+use Rattle.typst_edits.specs.RunTest.{Reading, pieces_by, OverLaw}
 use Rattle.typst_edits.proofs.Boundary.{first-of, stopped-is}
 use Rattle.typst_edits.proofs.NumberedNotes.{go-fewer, go-next, turns-within}
 use Rattle.typst_edits.proofs.Every.{not-less}
@@ -27,7 +27,7 @@ module _ (k : CharClasses) (r : Reading) where
       let room = (sane-run level (sane-meaning (rules k) k r.levels) (sane-in k r.levels r.which) peek).within r.place (start_point markup_reading) in
       omega (arith, room, turns-within turn within m r.carried r.place (first_look level r.place).state)
 
-  none-behind : (m j : ℕ) → IsOver k r.levels r.which r.carried r.place m → AllGo (read_by k r j) → m < j → ⊥
+  none-behind : (m j : ℕ) → IsOver k r.levels r.which r.carried r.place m → AllGo (pieces_by k r j) → m < j → ⊥
   none-behind m j over go l =
       let e = end_on level (stops_of r.which) r.carried m r.place in
       let o = turn e.value (moved e.taken r.place) e.state in

@@ -1,5 +1,5 @@
 -- A text's tree and log, where pieces of its run are exchanged.
-use Rattle.typst_edits.proofs.Cited.{◌≡◌, ℕ, ◌+◌, Bool, true, false, List, [], ◌∷◌, ◌++◌, append_assoc, append-nil, refl, ap, sym, ◌∙◌, arith, map-append, Tree, forest, inner_of, Place, CharClasses, Ask, shift, no_log, logged, Outcome, plain, standing, joined, run, Level, Point, gap_of, state_of, less-none, max_depth, start_of, parsed, tree, log, level_at, text_with, onwards_at, text_run, given, run_mark, start, AllGo, End, end_of, asks_of, chain, lead, pieces, end_at, pieces_from, end_from, rest_from, tail, whole_of, peek, marked, run_of, standing-joined}
+use Rattle.typst_edits.proofs.Cited.{◌≡◌, ℕ, ◌+◌, Bool, true, false, List, [], ◌∷◌, ◌++◌, append_assoc, append-nil, refl, ap, sym, ◌∙◌, arith, map-append, Tree, forest, inner_of, Place, CharClasses, Ask, shift, no_log, logged, Outcome, plain, standing, joined, run, Level, Point, gap_of, state_of, less-none, max_depth, start_of, parsed, tree, log, level_at, onwards_at, text_run, given, run_mark, start, AllGo, End, end_of, asks_of, chain, lead, tail, whole_of, peek, marked, run_of, standing-joined, text_before, text_after, start_before, start_after, first_of, first_end, then_of, then_end, rest_of}
 use Rattle.typst_edits.specs.RunTrees.{tree_by, RunTreeLaw}
 use Rattle.typst_kinds.specs.declared.kind.SyntaxKind.TheVariants as kind
 pub use Rattle.typst_grammar.proofs.Heads.{standing-none}
@@ -66,47 +66,47 @@ pub chain-last : (ls : List Ask) (x : Bool × ℕ) (s : Point) (os : List (Outco
 chain-last ls x s os q t = chained-asks ls x x s s os [] q t ∙ ap (λ u. (ls ++ asks_of os) ++ shift (end_of x s os).taken u) (shift-zero (q.asks ++ shift q.taken t.asks))
 
 -- a text's tree, by its pieces and all after them
-pub tree-is : (k : CharClasses) (text : List ℕ) (i n : ℕ) → (let z = start_of text in AllGo (pieces k i z) → AllGo (pieces_from k i n z) → tree k text ≡ tree_by (pieces k i z) (pieces_from k i n z) (onwards_at i n (text_run k z)))
+pub tree-is : (k : CharClasses) (text : List ℕ) (i n : ℕ) → (let z = start_of text in AllGo (first_of i (text_run k z)) → AllGo (then_of i n (text_run k z)) → tree k text ≡ tree_by (first_of i (text_run k z)) (then_of i n (text_run k z)) (onwards_at i n (text_run k z)))
 unfolding tree
 tree-is k text i n g h =
     let z = start_of text in
-    let os = pieces k i z in
-    let ps = pieces_from k i n z in
-    let q = rest_from k i n z in
+    let os = first_of i (text_run k z) in
+    let ps = then_of i n (text_run k z) in
+    let q = rest_of i n (text_run k z) in
     let r = chain os (chain ps q) in
-    let u = tail k (((end_at k i z).taken + (end_from k i n z).taken) + q.taken) q.state z in
+    let u = tail k (((first_end i (text_run k z)).taken + (then_end i n (text_run k z)).taken) + q.taken) q.state z in
     let tail_is : tail k r.taken r.state z ≡ u =
-    ap (λ a. tail k a r.state z) (split-taken (text_run k z) i n) ∙ ap (λ s. tail k (((end_at k i z).taken + (end_from k i n z).taken) + q.taken) s z) (chain-state os (chain ps q) ∙ chain-state ps q) in
+    ap (λ a. tail k a r.state z) (split-taken (text_run k z) i n) ∙ ap (λ s. tail k (((first_end i (text_run k z)).taken + (then_end i n (text_run k z)).taken) + q.taken) s z) (chain-state os (chain ps q) ∙ chain-state ps q) in
     let is : parsed k max_depth text ≡ whole_of (lead k z) r u =
     whole-is k text ∙ ap (λ o. whole_of (lead k z) o (tail k o.taken o.state z)) (split (text_run k z) (within k) i n g h) ∙ ap (whole_of (lead k z) r) tail_is in
     grind (arith, run-nodes, standing-chain, standing-joined)
 
 pub run-tree-law : RunTreeLaw
 unfolding tree log
-run-tree-law k front old new rest i n m past h =
-    let z = text_with front old rest in
-    let w = text_with front new rest in
-    let kept = run-law k front old new rest i n m past h in
-    let os = pieces k i z in
-    let ps = pieces_from k i n z in
-    let qs = pieces_from k i m w in
-    let e = end_at k i z in
-    let f = end_from k i n z in
-    let g = end_at k i w in
-    let j = end_from k i m w in
-    let q = rest_from k i n z in
+run-tree-law k edit i n m past h =
+    let z = start_before edit in
+    let w = start_after edit in
+    let kept = run-law k edit i n m past h in
+    let os = first_of i (text_run k z) in
+    let ps = then_of i n (text_run k z) in
+    let qs = then_of i m (text_run k w) in
+    let e = first_end i (text_run k z) in
+    let f = then_end i n (text_run k z) in
+    let g = first_end i (text_run k w) in
+    let j = then_end i m (text_run k w) in
+    let q = rest_of i n (text_run k z) in
     let r = chain os (chain ps q) in
     let u = tail k ((e.taken + f.taken) + q.taken) q.state z in
     -- the trivia at the end
     let taken : r.taken ≡ (e.taken + f.taken) + q.taken = split-taken (text_run k z) i n in
     let state : r.state ≡ q.state = chain-state os (chain ps q) ∙ chain-state ps q in
     let tail_is : tail k r.taken r.state z ≡ u = ap (λ a. tail k a r.state z) taken ∙ ap (λ s. tail k ((e.taken + f.taken) + q.taken) s z) state in
-    let was : parsed k max_depth (front ++ (old ++ rest)) ≡ whole_of (lead k z) r u = kept.was ∙ ap (whole_of (lead k z) r) tail_is in
-    let now : parsed k max_depth (front ++ (new ++ rest)) ≡ whole_of (lead k w) (chain os (chain qs q)) u = kept.now ∙ ap (whole_of (lead k w) (chain os (chain qs q))) tail_is in
+    let was : parsed k max_depth (text_before edit) ≡ whole_of (lead k z) r u = kept.was ∙ ap (whole_of (lead k z) r) tail_is in
+    let now : parsed k max_depth (text_after edit) ≡ whole_of (lead k w) (chain os (chain qs q)) u = kept.now ∙ ap (whole_of (lead k w) (chain os (chain qs q))) tail_is in
     let nodes : (y : Place) (xs : List (Outcome (Bool × (Bool × ℕ)))) → (whole_of (lead k y) (chain os (chain xs q)) u).nodes ≡ standing (joined q u) (given xs (given os [])) = λ y xs.
     run-nodes (level_at k max_depth) start y (chain os (chain xs q)) u ∙ ap (standing u) (standing-chain os (chain xs q) [] ∙ standing-chain xs q (given os [])) ∙ sym (standing-joined q u (given xs (given os []))) in
     let made_tree = λ (ts : List Tree). inner_of kind.Markup (forest ts) in
-    let same_end : end_of (true, 0) (lead k w).state os ≡ end_of (true, 0) (lead k w).state (pieces k i w) = ap (end_of (true, 0) (lead k w).state) (sym kept.first) in
+    let same_end : end_of (true, 0) (lead k w).state os ≡ end_of (true, 0) (lead k w).state (first_of i (text_run k w)) = ap (end_of (true, 0) (lead k w).state) (sym kept.first) in
     record {
       tree_was = ap (λ (o : Outcome (Unit {0})). made_tree o.nodes) was ∙ ap made_tree (nodes z ps);
       tree_now = ap (λ (o : Outcome (Unit {0})). made_tree o.nodes) now ∙ ap made_tree (nodes w qs);

@@ -1,5 +1,5 @@
 -- The units of two texts that are asked the same before a stretch and after it.
-use Rattle.typst_edits.proofs.Cited.{◌≡◌, ℕ, zero, suc, ◌+◌, ◌-◌, ◌<◌, ◌≤◌, ◌^◌, max, min, List, [], ◌∷◌, ◌++◌, length, take, drop, append_assoc, append-nil, refl, ap, sym, ◌∙◌, subst, arith, Bool, true, length-append, Some, None, take-append_seam, back_of, entry_of, entries_by, last_start, spliced, units_of, Units, units_by, Entry, Place, moved, moved_from, width, position, stretch, far, near, Mark, Note, State, Ask, shift, looked, marked, moved-sum, text_with, AllEndBy, AllBeginIn, Noting, noting, token_start, notes_in, entries_from, AllNotedBy, Look, no_log, logged, Outcome, start_point, CharClasses, markup_reading, rules, max_depth, whole, parsed, log, made-sum, AllFrom, asks_of, Sequence, turn_of, first_of, then_of, drop-append_seam, moved-ahead, SpliceLaw}
+use Rattle.typst_edits.proofs.Cited.{◌≡◌, ℕ, zero, suc, ◌+◌, ◌-◌, ◌<◌, ◌≤◌, ◌^◌, max, min, List, [], ◌∷◌, ◌++◌, length, take, drop, append_assoc, append-nil, refl, ap, sym, ◌∙◌, subst, arith, Bool, true, length-append, Some, None, take-append_seam, back_of, entry_of, entries_by, last_start, spliced, units_of, Units, units_by, Entry, Place, moved, moved_from, width, position, stretch, far, near, Mark, Note, State, Ask, shift, looked, marked, moved-sum, text_with, AllEndBy, AllBeginIn, Noting, noting, token_start, notes_in, entries_from, AllNotedBy, Look, no_log, logged, Outcome, start_point, CharClasses, markup_reading, rules, max_depth, whole, parsed, log, made-sum, AllFrom, asks_of, Sequence, turn_of, first_of, then_of, drop-append_seam, moved-ahead, SpliceLaw, TextReplacement, text_before, text_after, start_before, start_after}
 use Rattle.typst_edits.proofs.Edit.{onto, past-is}
 use Rattle.typst_edits.proofs.Bytes.{note_by, notes_from, least_from, none_yet, fresh_notes, logged-notes, logged-least, least-around, noted-length, AllMarks, notes-one}
 use Rattle.typst_edits.proofs.Widths.{width-append, width-none, width-onto, stretch-to, moved-width, take-width}
@@ -153,24 +153,24 @@ module _ (front mid rest : List ℕ) (past end : ℕ) (e : end ≡ (length front
   near-at at n h k = ap (near n) (behind-place at) ∙ near-behind n (past + at) (onto mid (onto front [])) rest h k
 
 -- as far after the one stretch as after the other
-module _ (lv : ℕ) (front old new rest : List ℕ) (past end stop : ℕ) (e : end ≡ (length front + length old) + past) (f : stop ≡ (length front + length new) + past) where
+module _ (lv : ℕ) (edit : TextReplacement) (past end stop : ℕ) (e : end ≡ (length edit.front + length edit.old) + past) (f : stop ≡ (length edit.front + length edit.new) + past) where
   abbrev z : Place
-  z = text_with front old rest
+  z = start_before edit
 
   abbrev w : Place
-  w = text_with front new rest
+  w = start_after edit
 
   abbrev b : ℕ
-  b = width (onto old (onto front []))
+  b = width (onto edit.old (onto edit.front []))
 
   abbrev c : ℕ
-  c = width (onto new (onto front []))
+  c = width (onto edit.new (onto edit.front []))
 
   abbrev top : ℕ
-  top = width rest
+  top = width edit.rest
 
   abbrev wide : ℕ → ℕ
-  wide d = width (take d rest)
+  wide d = width (take d edit.rest)
 
   -- The entries are the same, and so is how far back was looked since the last note.
   pub record Rear (x r l t u : ℕ) (asks : List Ask) : Type 0 where
@@ -178,23 +178,23 @@ module _ (lv : ℕ) (front old new rest : List ℕ) (past end stop : ℕ) (e : e
     pub back : back_of (last_start (b + x) (notes_from lv z r l (shift end asks))) (least_from lv z l (shift end asks)) ≡ back_of (last_start (c + x) (notes_from lv w t u (shift stop asks))) (least_from lv w u (shift stop asks))
 
   reach-same : (r t at n : ℕ) → SameReach b c r t → SameReach b c (max r (far n (moved (end + at) z))) (max t (far n (moved (stop + at) w)))
-  reach-same r t at n h x = let o = far-at front old rest past end e at n in let m = far-at front new rest past stop f at n in let i = h x in omega (arith, i, o, m)
+  reach-same r t at n h x = let o = far-at edit.front edit.old edit.rest past end e at n in let m = far-at edit.front edit.new edit.rest past stop f at n in let i = h x in omega (arith, i, o, m)
 
-  least-same : (l u at n : ℕ) → n ≤ past + at → past + at ≤ length rest → SameLeast top b c l u → SameLeast top b c (min l (near n (moved (end + at) z))) (min u (near n (moved (stop + at) w)))
-  least-same l u at n h k s x le = let o = near-at front old rest past end e at n h k in let m = near-at front new rest past stop f at n h k in let i = s x le in omega (arith, i, o, m)
+  least-same : (l u at n : ℕ) → n ≤ past + at → past + at ≤ length edit.rest → SameLeast top b c l u → SameLeast top b c (min l (near n (moved (end + at) z))) (min u (near n (moved (stop + at) w)))
+  least-same l u at n h k s x le = let o = near-at edit.front edit.old edit.rest past end e at n h k in let m = near-at edit.front edit.new edit.rest past stop f at n h k in let i = s x le in omega (arith, i, o, m)
 
   note-behind : (x r l t u at gap fewer : ℕ) (m : Mark) (s : State) → x ≤ top → SameReach b c r t → SameLeast top b c l u
       → entry_of (b + x) (note_by lv z r l (end + at) gap fewer m s) ≡ entry_of (c + x) (note_by lv w t u (stop + at) gap fewer m s)
   note-behind x r l t u at gap fewer m s h i j =
-      grind (arith, start-at front old rest past end e at gap, start-at front new rest past stop f at gap, position-at front old rest past end e at, position-at front new rest past stop f at, i (wide (past + (at + gap))))
+      grind (arith, start-at edit.front edit.old edit.rest past end e at gap, start-at edit.front edit.new edit.rest past stop f at gap, position-at edit.front edit.old edit.rest past end e at, position-at edit.front edit.new edit.rest past stop f at, i (wide (past + (at + gap))))
 
-  pub rear : (asks : List Ask) (x r l t u : ℕ) → x ≤ top → b + top < 2 ^ 64 - 1 → c + top < 2 ^ 64 - 1 → SameReach b c r t → SameLeast top b c l u → AllBeginIn past rest asks → Rear x r l t u asks
+  pub rear : (asks : List Ask) (x r l t u : ℕ) → x ≤ top → b + top < 2 ^ 64 - 1 → c + top < 2 ^ 64 - 1 → SameReach b c r t → SameLeast top b c l u → AllBeginIn past edit.rest asks → Rear x r l t u asks
   rear [] x r l t u h big big_new i j g = record { entries = refl; back = j x h }
   rear (looked at look ∷ asks) x r l t u h big big_new i j g =
       grind (arith, rear asks x _ _ _ _ h big big_new (reach-same r t at look.front i) (least-same l u at look.back g.0 g.1 j) g.2)
   rear (marked at gap fewer m s ∷ asks) x r l t u h big big_new i j g =
       let y = wide (past + (at + gap)) in
-      let o = rear asks y 0 (2 ^ 64 - 1) 0 (2 ^ 64 - 1) (take-width (past + (at + gap)) rest) big big_new (reach-none b c) (least-none top b c (2 ^ 64 - 1) big big_new) g in
+      let o = rear asks y 0 (2 ^ 64 - 1) 0 (2 ^ 64 - 1) (take-width (past + (at + gap)) edit.rest) big big_new (reach-none b c) (least-none top b c (2 ^ 64 - 1) big big_new) g in
       grind (arith, note-behind, start-at)
 
 -- ---- parts
@@ -325,19 +325,19 @@ splice-sides lv front xs ys first p own all own_new all_new behind back ends not
     ∙ (λ v. spliced from to (sym part_is v) (sym was v))
 
 -- Two texts are read alike up to a note, and from a later one on: the units of the second are those of the first with the entries between these two notes exchanged for its own.
-pub splice-texts : (k : CharClasses) (front old new rest : List ℕ) (first : List Ask) (p q : Noting) (own all own_new all_new : List Ask) (behind : List Entry) (back from count : ℕ)
-    → (parsed k max_depth (front ++ (old ++ rest))).asks ≡ first ++ noting p ∷ all → (parsed k max_depth (front ++ (new ++ rest))).asks ≡ first ++ noting p ∷ all_new → q ≡ p → AllEndBy (length front) first
-    → Side max_depth (text_with front old rest) p own all behind back → Side max_depth (text_with front new rest) q own_new all_new behind back → notes_in first ≡ from → notes_in own ≡ count
-    → units_of (log k (front ++ (new ++ rest))) ≡ spliced from (from + count) (entries_from (token_start (text_with front new rest) q) (logged max_depth (text_with front new rest) no_log own_new).notes) (units_of (log k (front ++ (old ++ rest))))
+pub splice-texts : (k : CharClasses) (edit : TextReplacement) (first : List Ask) (p q : Noting) (own all own_new all_new : List Ask) (behind : List Entry) (back from count : ℕ)
+    → (parsed k max_depth (text_before edit)).asks ≡ first ++ noting p ∷ all → (parsed k max_depth (text_after edit)).asks ≡ first ++ noting p ∷ all_new → q ≡ p → AllEndBy (length edit.front) first
+    → Side max_depth (start_before edit) p own all behind back → Side max_depth (start_after edit) q own_new all_new behind back → notes_in first ≡ from → notes_in own ≡ count
+    → units_of (log k (text_after edit)) ≡ spliced from (from + count) (entries_from (token_start (start_after edit) q) (logged max_depth (start_after edit) no_log own_new).notes) (units_of (log k (text_before edit)))
 unfolding log
-splice-texts k front old new rest first p q own all own_new all_new behind back from count was now same early one two from_is count_is =
-    let z = text_with front old rest in
-    let w = text_with front new rest in
-    let n = length front in
+splice-texts k edit first p q own all own_new all_new behind back from count was now same early one two from_is count_is =
+    let z = start_before edit in
+    let w = start_after edit in
+    let n = length edit.front in
     let upto = first ++ noting p ∷ [] in
     let all_seen = (sees-level (rules k) k max_depth whole z (start_point markup_reading) n (omega arith)).noted in
     let noted_all = seen-first n upto all (subst (AllSeen n) (was ∙ sym (append_assoc first (noting p ∷ []) all)) all_seen) (looks-both (ending n) first (noting p ∷ []) early tt) in
-    let law = splice-sides max_depth front (old ++ rest) (new ++ rest) first p own all own_new all_new behind back early
+    let law = splice-sides max_depth edit.front (edit.old ++ edit.rest) (edit.new ++ edit.rest) first p own all own_new all_new behind back early
     (noted-first n first (noting p ∷ []) noted_all) (noted-last n first p noted_all) one (subst (λ a. Side max_depth w a own_new all_new behind back) same two) in
     let part = λ (a : Noting). entries_from (token_start w a) (logged max_depth w no_log own_new).notes in
     let units = λ (asks : List Ask). units_of (logged max_depth z no_log asks) in
@@ -391,44 +391,44 @@ pub record SameAfter (lv : ℕ) (z w : Place) (end stop at at_new : ℕ) (last :
   pub back : back_of (last_start (position (moved at_new w)) (fresh_notes lv w (shift stop last))) (least_from lv w none_yet (shift stop last))
       ≡ back_of (last_start (position (moved at z)) (fresh_notes lv z (shift end last))) (least_from lv z none_yet (shift end last))
 
-same-after : (lv : ℕ) (front old new rest : List ℕ) (past gap at at_new : ℕ) (last : List Ask) → at ≡ ((length front + length old) + past) + gap → at_new ≡ ((length front + length new) + past) + gap
-    → width (front ++ (old ++ rest)) < 2 ^ 64 - 1 → width (front ++ (new ++ rest)) < 2 ^ 64 - 1 → AllBeginIn past rest last
-    → SameAfter lv (text_with front old rest) (text_with front new rest) ((length front + length old) + past) ((length front + length new) + past) at at_new last
-same-after lv front old new rest past gap at at_new last at_is new_is big big_new begins =
-    let z = text_with front old rest in
-    let w = text_with front new rest in
-    let end = (length front + length old) + past in
-    let stop = (length front + length new) + past in
-    let b = width (onto old (onto front [])) in
-    let c = width (onto new (onto front [])) in
-    let x = width (take (past + gap) rest) in
-    let fits : b + width rest < none_yet = subst (λ n. n < none_yet) (sym (whole-width front old rest)) big in
-    let fits_new : c + width rest < none_yet = subst (λ n. n < none_yet) (sym (whole-width front new rest)) big_new in
-    let behind = rear lv front old new rest past end stop refl refl last x 0 none_yet 0 none_yet (take-width (past + gap) rest) fits fits_new (reach-none b c) (least-none (width rest) b c none_yet fits fits_new) begins in
-    let q_is : position (moved at z) ≡ b + x = ap (λ n. position (moved n z)) at_is ∙ position-at front old rest past end refl gap in
-    let r_is : position (moved at_new w) ≡ c + x = ap (λ n. position (moved n w)) new_is ∙ position-at front new rest past stop refl gap in
+same-after : (lv : ℕ) (edit : TextReplacement) (past gap at at_new : ℕ) (last : List Ask) → at ≡ ((length edit.front + length edit.old) + past) + gap → at_new ≡ ((length edit.front + length edit.new) + past) + gap
+    → width (text_before edit) < 2 ^ 64 - 1 → width (text_after edit) < 2 ^ 64 - 1 → AllBeginIn past edit.rest last
+    → SameAfter lv (start_before edit) (start_after edit) ((length edit.front + length edit.old) + past) ((length edit.front + length edit.new) + past) at at_new last
+same-after lv edit past gap at at_new last at_is new_is big big_new begins =
+    let z = start_before edit in
+    let w = start_after edit in
+    let end = (length edit.front + length edit.old) + past in
+    let stop = (length edit.front + length edit.new) + past in
+    let b = width (onto edit.old (onto edit.front [])) in
+    let c = width (onto edit.new (onto edit.front [])) in
+    let x = width (take (past + gap) edit.rest) in
+    let fits : b + width edit.rest < none_yet = subst (λ n. n < none_yet) (sym (whole-width edit.front edit.old edit.rest)) big in
+    let fits_new : c + width edit.rest < none_yet = subst (λ n. n < none_yet) (sym (whole-width edit.front edit.new edit.rest)) big_new in
+    let behind = rear lv edit past end stop refl refl last x 0 none_yet 0 none_yet (take-width (past + gap) edit.rest) fits fits_new (reach-none b c) (least-none (width edit.rest) b c none_yet fits fits_new) begins in
+    let q_is : position (moved at z) ≡ b + x = ap (λ n. position (moved n z)) at_is ∙ position-at edit.front edit.old edit.rest past end refl gap in
+    let r_is : position (moved at_new w) ≡ c + x = ap (λ n. position (moved n w)) new_is ∙ position-at edit.front edit.new edit.rest past stop refl gap in
     let ns = fresh_notes lv z (shift end last) in
     let ms = fresh_notes lv w (shift stop last) in
     grind arith
 
 -- directly after them
-pub same-at : (lv : ℕ) (front old new rest : List ℕ) (past : ℕ) (last : List Ask) → width (front ++ (old ++ rest)) < 2 ^ 64 - 1 → width (front ++ (new ++ rest)) < 2 ^ 64 - 1 → AllBeginIn past rest last
-    → (let end = (length front + length old) + past in let stop = (length front + length new) + past in SameAfter lv (text_with front old rest) (text_with front new rest) end stop end stop last)
-same-at lv front old new rest past last = same-after lv front old new rest past 0 _ _ last (omega arith) (omega arith)
+pub same-at : (lv : ℕ) (edit : TextReplacement) (past : ℕ) (last : List Ask) → width (text_before edit) < 2 ^ 64 - 1 → width (text_after edit) < 2 ^ 64 - 1 → AllBeginIn past edit.rest last
+    → (let end = (length edit.front + length edit.old) + past in let stop = (length edit.front + length edit.new) + past in SameAfter lv (start_before edit) (start_after edit) end stop end stop last)
+same-at lv edit past last = same-after lv edit past 0 _ _ last (omega arith) (omega arith)
 
 -- ---- the law
 
 pub splice-law : SpliceLaw
-splice-law lv front old new rest past gap first second third last p q r big big_new ends noted within at_end at_stop begins =
-    let z = text_with front old rest in
-    let w = text_with front new rest in
-    let end = (length front + length old) + past in
-    let stop = (length front + length new) + past in
+splice-law lv edit past gap first second third last p q r big big_new ends noted within at_end at_stop begins =
+    let z = start_before edit in
+    let w = start_after edit in
+    let end = (length edit.front + length edit.old) + past in
+    let stop = (length edit.front + length edit.new) + past in
     let own = second ++ noting q ∷ [] in
     let own_new = third ++ noting r ∷ [] in
     let all = second ++ noting q ∷ shift end last in
     let all_new = third ++ noting r ∷ shift stop last in
-    let s = same-after lv front old new rest past gap (end + gap) (stop + gap) last refl refl big big_new begins in
+    let s = same-after lv edit past gap (end + gap) (stop + gap) last refl refl big big_new begins in
     let ns = fresh_notes lv z (shift end last) in
     let ms = fresh_notes lv w (shift stop last) in
     let q_is = token-at z q (end + gap) at_end in
@@ -437,7 +437,7 @@ splice-law lv front old new rest past gap first second third last p q r big big_
     let two = side-by lv w p own_new all_new _ _ _ _ (ap (λ n. entries_by n ms) r_is ∙ s.entries) (ap (λ n. back_of (last_start n ms) (least_from lv w none_yet (shift stop last))) r_is ∙ s.back)
     (side-ended lv w p r own_new all_new third [] (shift stop last) refl tt refl) in
     let count : notes_in first + notes_in own ≡ suc (notes_in first + notes_in second) = omega (arith, notes-one second q.at q.gap q.fewer q.mark q.state) in
-    splice-sides lv front (old ++ rest) (new ++ rest) first p own all own_new all_new _ _ ends noted within one two
+    splice-sides lv edit.front (edit.old ++ edit.rest) (edit.new ++ edit.rest) first p own all own_new all_new _ _ ends noted within one two
     ∙ ap (λ n. spliced (notes_in first) n (entries_from (token_start w p) (logged lv w no_log own_new).notes) (units_of (logged lv z no_log (first ++ noting p ∷ all)))) count
 
 -- ---- after the last token

@@ -1,5 +1,5 @@
 -- Where a block of a text stands, and that the steps by places lead to each block that covers the stretch strictly.
-use Rattle.typst_edits.proofs.Cited.{◌≡◌, ℕ, suc, ◌+◌, ◌-◌, ◌≤◌, Bool, true, false, ◌&&◌, if◌then◌else◌, List, [], ◌∷◌, ◌++◌, length, take, drop, append_assoc, append-nil, refl, ap, sym, ◌∙◌, subst, arith, zero, ◌<◌, max, length-append, encode_utf8, encode_utf8_all, nat_lt, map, length-take, option_map, Some, is_error, Head, Place, moved, Tree, error_of, text_of, trees, CharClasses, Block, Call, utf8_ahead, Point, forgot, point_of, NodeChange, Shape, hinted, is_delimited, stays, turns_wrong, is_not, renamed, unparened, keeps, Parser, flushes, does, Rules, meaning_of, level_of, Outcome, Level, blockless, answered, joined, less, done, run, start_point, Tidy, Stands, Sane, sane-run, sane-meaning, sane-block, sane-plain, texts, texts-append, text-shaped, texts-one, texts-first, text-add, same-hinted, kept-joined, Holds, Deep, Hole, between_parens, changed_deep, first_hole, change_hole, in_node, in_nodes, after_nodes, wrap_in, wrap_hole, plug, fill, path_in, path_of, under, Spot, block_head, after_spot, rehole, ended, unit_at, here_spot, Spots, level_spots, level_seconds, width, ahead-left, markup_reading, rules, max_depth, start_of, whole, parsed, Among, text_with, blocks_of_text, block_at, Named, width-positive, and_right, take-append-drop, lawful-block, if-true, if-false, char_width, texts-same, kept-grown, and_from, le-ltb, tidy-grew, length-encode}
+use Rattle.typst_edits.proofs.Cited.{◌≡◌, ℕ, suc, ◌+◌, ◌-◌, ◌≤◌, Bool, true, false, ◌&&◌, if◌then◌else◌, List, [], ◌∷◌, ◌++◌, length, take, drop, append_assoc, append-nil, refl, ap, sym, ◌∙◌, subst, arith, zero, ◌<◌, max, length-append, encode_utf8, encode_utf8_all, nat_lt, map, length-take, option_map, Some, is_error, Head, Place, moved, Tree, error_of, text_of, trees, CharClasses, Block, Call, utf8_ahead, Point, forgot, point_of, NodeChange, Shape, hinted, is_delimited, stays, turns_wrong, is_not, renamed, unparened, keeps, Parser, flushes, does, Rules, meaning_of, level_of, Outcome, Level, blockless, answered, joined, less, done, run, start_point, Tidy, Stands, Sane, sane-run, sane-meaning, sane-block, sane-plain, texts, texts-append, text-shaped, texts-one, texts-first, text-add, same-hinted, kept-joined, Holds, Deep, Hole, between_parens, changed_deep, first_hole, change_hole, in_node, in_nodes, after_nodes, wrap_in, wrap_hole, plug, fill, path_in, path_of, under, Spot, block_head, after_spot, rehole, ended, unit_at, here_spot, Spots, level_spots, level_seconds, width, ahead-left, markup_reading, rules, max_depth, start_of, whole, parsed, Among, blocks_of_text, block_at, Named, width-positive, and_right, take-append-drop, lawful-block, if-true, if-false, char_width, texts-same, kept-grown, and_from, le-ltb, tidy-grew, length-encode, text_before, start_before}
 use Rattle.typst_edits.specs.Hole.Deep.{bare}
 use Rattle.typst_edits.proofs.Every.{Every, every-map, every-if}
 use Rattle.typst_edits.proofs.Names.{Walks, Steps, each-level, each-second-level, named-level}
@@ -313,28 +313,28 @@ width-some [] h = absurd (omega arith)
 width-some (c ∷ xs) h = omega (arith, width-positive c)
 
 pub walk-law : WalkLaw
-walk-law k front old rest c past among_them starts ends_at goes_on =
-    let text = front ++ (old ++ rest) in
-    let u = unit_at c (text_with front old rest) in
+walk-law k edit c past among_them starts ends_at goes_on =
+    let text = text_before edit in
+    let u = unit_at c (start_before edit) in
     let place = spot-place k text c among_them in
     let some : 0 < u.taken = omega (arith, starts, ends_at) in
-    let all : past ≤ length rest = omega (arith, place.room, length-append front (old ++ rest), length-append old rest, starts, ends_at) in
-    let end_at : c.at + u.taken ≡ length (front ++ old) + past = omega (arith, ends_at, length-append front old) in
-    let same_text : (front ++ old) ++ rest ≡ text = append_assoc front old rest in
+    let all : past ≤ length edit.rest = omega (arith, place.room, length-append edit.front (edit.old ++ edit.rest), length-append edit.old edit.rest, starts, ends_at) in
+    let end_at : c.at + u.taken ≡ length (edit.front ++ edit.old) + past = omega (arith, ends_at, length-append edit.front edit.old) in
+    let same_text : (edit.front ++ edit.old) ++ edit.rest ≡ text = append_assoc edit.front edit.old edit.rest in
     let left_is = place.left_taken some in
     let both = place.both_taken some in
-    let far : width (take (c.at + u.taken) text) ≡ width (front ++ old) + width (take past rest) =
-    ap (λ j. width (take j text)) end_at ∙ ap (λ xs. width (take (length (front ++ old) + past) xs)) (sym same_text) ∙ width-over (front ++ old) past rest in
-    let more : 0 < width (take past rest) = width-some (take past rest) (let t = length-take past rest in omega (arith, t, all, goes_on)) in
-    let early : length (left_text c.hole) < width front = (let b = width-before c.at front (old ++ rest) starts in omega (arith, left_is, b)) in
-    let late : width (front ++ old) < length (left_text c.hole) + length (text_of c.node) = omega (arith, left_is, both, far, more) in
-    let order : width front ≤ width (front ++ old) = (let w = width-append front old in omega (arith, w)) in
-    let steps : walk_to (length (path_of c.hole)) k front old rest ≡ steps_of (width front) (width (front ++ old)) order c.hole c.node =
-    ap (walk (length (path_of c.hole)) (width front) (width (front ++ old)) 0) place.nodes ∙ walk-hole (width front) (width (front ++ old)) order c.hole c.node early late in
-    let last = last-in (width front) (width (front ++ old)) order (length c.hole.left) c.hole.deep c.node (length (texts c.hole.left)) in
+    let far : width (take (c.at + u.taken) text) ≡ width (edit.front ++ edit.old) + width (take past edit.rest) =
+    ap (λ j. width (take j text)) end_at ∙ ap (λ xs. width (take (length (edit.front ++ edit.old) + past) xs)) (sym same_text) ∙ width-over (edit.front ++ edit.old) past edit.rest in
+    let more : 0 < width (take past edit.rest) = width-some (take past edit.rest) (let t = length-take past edit.rest in omega (arith, t, all, goes_on)) in
+    let early : length (left_text c.hole) < width edit.front = (let b = width-before c.at edit.front (edit.old ++ edit.rest) starts in omega (arith, left_is, b)) in
+    let late : width (edit.front ++ edit.old) < length (left_text c.hole) + length (text_of c.node) = omega (arith, left_is, both, far, more) in
+    let order : width edit.front ≤ width (edit.front ++ edit.old) = (let w = width-append edit.front edit.old in omega (arith, w)) in
+    let steps : walk_to (length (path_of c.hole)) k edit ≡ steps_of (width edit.front) (width (edit.front ++ edit.old)) order c.hole c.node =
+    ap (walk (length (path_of c.hole)) (width edit.front) (width (edit.front ++ edit.old)) 0) place.nodes ∙ walk-hole (width edit.front) (width (edit.front ++ edit.old)) order c.hole c.node early late in
+    let last = last-in (width edit.front) (width (edit.front ++ edit.old)) order (length c.hole.left) c.hole.deep c.node (length (texts c.hole.left)) in
     let at_is : length (texts c.hole.left) + length (deep_text c.hole.deep) ≡ width (take c.at text) = (let g = length-append (texts c.hole.left) (deep_text c.hole.deep) in omega (arith, g, left_is)) in
     record {
-      path = ap (map (λ (t : Step). t.index)) steps ∙ ap (λ is. length c.hole.left ∷ is) (path-in (width front) (width (front ++ old)) order c.hole.deep c.node (length (texts c.hole.left)));
+      path = ap (map (λ (t : Step). t.index)) steps ∙ ap (λ is. length c.hole.left ∷ is) (path-in (width edit.front) (width (edit.front ++ edit.old)) order c.hole.deep c.node (length (texts c.hole.left)));
       earlier = last.earlier;
       last = record { index = last.index; start = length (texts c.hole.left) + length (deep_text c.hole.deep); node = c.node };
       steps = steps ∙ last.is;

@@ -16,10 +16,15 @@ use Rattle.typst_edits.specs.Edit.{Among}
 use Rattle.typst_edits.specs.Every.{Every}
 use Rattle.typst_edits.specs.Frame.{Gives}
 use Rattle.typst_edits.specs.PieceNotes.{listed}
+use Rattle.typst_edits.specs.TextReplacement.{TextReplacement, text_before, text_after}
 
 -- The candidates of replacing the bytes rs..re of a text are those of its tree at hand and of its reading's notes.
-abbrev pub candidates : CharClasses → List ℕ → ℕ → ℕ → Tree → List Candidate
-candidates k text rs re root = candidate.candidates (listed (log k text).notes) rs re root
+abbrev pub candidates_between : CharClasses → List ℕ → ℕ → ℕ → Tree → List Candidate
+candidates_between k text rs re root = candidate.candidates (listed (log k text).notes) rs re root
+
+-- The candidates of an edit, by the tree of the text before it.
+abbrev pub candidates : CharClasses → TextReplacement → Tree → List Candidate
+candidates k edit root = candidates_between k (text_before edit) (width edit.front) (width (edit.front ++ edit.old)) root
 
 -- A tree stands in the file that its root's span names.
 abbrev pub file_of : Tree → Option ℕ
@@ -31,26 +36,26 @@ numbered_in None t = Some (synthesized None t)
 numbered_in (Some file) t = numberized file 2 (2 ^ 47) t
 
 -- A candidate is refused where it doesn't pass or its nodes find no numbers.
-abbrev pub Refused : CharClasses → List ℕ → List ℕ → List ℕ → List ℕ → Tree → Candidate → Type 0
-Refused k front old new rest was c = (ts : List Tree) → Gives k front old new rest c ts → replaced_at c.path c.from c.to ts was ≡ None
+abbrev pub Refused : CharClasses → TextReplacement → Tree → Candidate → Type 0
+Refused k edit was c = (ts : List Tree) → Gives k edit c ts → replaced_at c.path c.from c.to ts was ≡ None
 
 -- THE ANSWER is the first candidate that passes and whose nodes find numbers, as its range in the new text; where there is none it is the whole new text, numbered again.
-pub data IsAnswer (k : CharClasses) (front old new rest : List ℕ) (cs : List Candidate) (was now : Tree) (range : Range ℕ) : Type 0 where
-  part : (earlier : List Candidate) (c : Candidate) (later : List Candidate) (ts : List Tree) → cs ≡ earlier ++ c ∷ later → Every (Refused k front old new rest was) earlier
-      → Gives k front old new rest c ts → replaced_at c.path c.from c.to ts was ≡ Some now → range.start ≡ c.start → range.end + width old ≡ c.end + width new → IsAnswer k front old new rest cs was now range
-  whole : Every (Refused k front old new rest was) cs → numbered_in (file_of was) (tree k (front ++ (new ++ rest))) ≡ Some now
-      → range ≡ record { start = 0; end = width (front ++ (new ++ rest)) } → IsAnswer k front old new rest cs was now range
+pub data IsAnswer (k : CharClasses) (edit : TextReplacement) (cs : List Candidate) (was now : Tree) (range : Range ℕ) : Type 0 where
+  part : (earlier : List Candidate) (c : Candidate) (later : List Candidate) (ts : List Tree) → cs ≡ earlier ++ c ∷ later → Every (Refused k edit was) earlier
+      → Gives k edit c ts → replaced_at c.path c.from c.to ts was ≡ Some now → range.start ≡ c.start → range.end + width edit.old ≡ c.end + width edit.new → IsAnswer k edit cs was now range
+  whole : Every (Refused k edit was) cs → numbered_in (file_of was) (tree k (text_after edit)) ≡ Some now
+      → range ≡ record { start = 0; end = width (text_after edit) } → IsAnswer k edit cs was now range
 
 -- A passing candidate is worth this: the new text's tree is the old one with its nodes in place, and its units are the old ones with its part's in place.
-pub record Worth (k : CharClasses) (front old new rest : List ℕ) (c : Candidate) (ts : List Tree) : Type 0 where
-  pub is_tree : tree k (front ++ (new ++ rest)) ≡ put_at c.path c.from c.to ts (tree k (front ++ (old ++ rest)))
+pub record Worth (k : CharClasses) (edit : TextReplacement) (c : Candidate) (ts : List Tree) : Type 0 where
+  pub is_tree : tree k (text_after edit) ≡ put_at c.path c.from c.to ts (tree k (text_before edit))
   pub from : ℕ
   pub to : ℕ
   pub part : List Entry
-  pub units : units_of (log k (front ++ (new ++ rest))) ≡ spliced from to part (units_of (log k (front ++ (old ++ rest))))
+  pub units : units_of (log k (text_after edit)) ≡ spliced from to part (units_of (log k (text_before edit)))
 
 -- The law of candidates: in texts that a machine word counts, each that passes is worth that.
 abbrev pub CandidateLaw : Type 0
-CandidateLaw = (k : CharClasses) (front old new rest : List ℕ) (root : Tree) (c : Candidate) (ts : List Tree) → bare root ≡ bare (tree k (front ++ (old ++ rest)))
-    → width (front ++ (old ++ rest)) < 2 ^ 64 - 1 → width (front ++ (new ++ rest)) < 2 ^ 64 - 1
-    → Among c (candidates k (front ++ (old ++ rest)) (width front) (width (front ++ old)) root) → Gives k front old new rest c ts → Worth k front old new rest c ts
+CandidateLaw = (k : CharClasses) (edit : TextReplacement) (root : Tree) (c : Candidate) (ts : List Tree) → bare root ≡ bare (tree k (text_before edit))
+    → width (text_before edit) < 2 ^ 64 - 1 → width (text_after edit) < 2 ^ 64 - 1
+    → Among c (candidates k edit root) → Gives k edit c ts → Worth k edit c ts

@@ -10,14 +10,15 @@ use Rattle.typst_grammar.specs.Grammar.{tree}
 use Rattle.typst_edits.specs.Answer.{candidates, IsAnswer}
 use Rattle.typst_edits.specs.Edit.{Among}
 use Rattle.typst_edits.specs.Frame.{Gives}
+use Rattle.typst_edits.specs.TextReplacement.{TextReplacement, text_before, text_after}
 
 -- The law of a candidate's tree, in texts of any length: where a candidate passes, the tree of the new text is the old one with its nodes in its place.
 abbrev pub GivesTreeLaw : Type 0
-GivesTreeLaw = (k : CharClasses) (front old new rest : List ℕ) (root : Tree) (c : Candidate) (ts : List Tree) → bare root ≡ bare (tree k (front ++ (old ++ rest)))
-    → Among c (candidates k (front ++ (old ++ rest)) (width front) (width (front ++ old)) root) → Gives k front old new rest c ts
-    → tree k (front ++ (new ++ rest)) ≡ put_at c.path c.from c.to ts (tree k (front ++ (old ++ rest)))
+GivesTreeLaw = (k : CharClasses) (edit : TextReplacement) (root : Tree) (c : Candidate) (ts : List Tree) → bare root ≡ bare (tree k (text_before edit))
+    → Among c (candidates k edit root) → Gives k edit c ts
+    → tree k (text_after edit) ≡ put_at c.path c.from c.to ts (tree k (text_before edit))
 
 -- The law of an answer: where the tree at hand is, spans aside, that of the old text, what answers an edit is, spans aside, that of the new text.
 abbrev pub AnswerTreeLaw : Type 0
-AnswerTreeLaw = (k : CharClasses) (front old new rest : List ℕ) (root now : Tree) (range : Range ℕ) → bare root ≡ bare (tree k (front ++ (old ++ rest)))
-    → IsAnswer k front old new rest (candidates k (front ++ (old ++ rest)) (width front) (width (front ++ old)) root) root now range → bare now ≡ bare (tree k (front ++ (new ++ rest)))
+AnswerTreeLaw = (k : CharClasses) (edit : TextReplacement) (root now : Tree) (range : Range ℕ) → bare root ≡ bare (tree k (text_before edit))
+    → IsAnswer k edit (candidates k edit root) root now range → bare now ≡ bare (tree k (text_after edit))

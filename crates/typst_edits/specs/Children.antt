@@ -8,13 +8,14 @@ use Rattle.typst_language.specs.Point.{Trivia}
 use Rattle.typst_language.specs.Meaning.{Outcome}
 use Rattle.typst_grammar.specs.Grammar.{max_depth, tree}
 use Rattle.typst_edits.specs.BlockRuns.{run_at}
-use Rattle.typst_edits.specs.Edit.{Among, text_with, alter}
+use Rattle.typst_edits.specs.Edit.{Among, alter}
 use Rattle.typst_edits.specs.Frame.{Run, top, inner, read_as, path_to}
 use Rattle.typst_edits.specs.InnerJoint.{IsRun}
 use Rattle.typst_edits.specs.Joins.{PassesJoint}
 use Rattle.typst_edits.specs.Laws.{blocks_of_text}
 use Rattle.typst_edits.specs.Sequence.{Sequence, first_end, then_end, onwards_at, read_by, standing_by, nodes_after, trivia_before}
 use Rattle.typst_edits.specs.Spot.{Spot, last_node, unit_at}
+use Rattle.typst_edits.specs.TextReplacement.{TextReplacement, text_before, text_after, start_before, start_after}
 
 -- the nodes from one index up to another exchanged for others
 abbrev pub exchanged : ℕ → ℕ → List Tree → List Tree → List Tree
@@ -44,41 +45,41 @@ kids_of_run {k} {text} top = trees (tree k text).kids
 kids_of_run {k} {text} (inner c levels a n l) = kids_in c.node
 
 -- What the trees of both texts are, where pieces of a run are read again that take back as many errors as the old ones: the new nodes stand in place of the old ones.
-pub record KeptChildren (k : CharClasses) (front old new rest : List ℕ) (r : Run k (front ++ (old ++ rest))) (i n m : ℕ) (t u : Trivia) : Type 0 where
+pub record KeptChildren (k : CharClasses) (edit : TextReplacement) (r : Run k (text_before edit)) (i n m : ℕ) (t u : Trivia) : Type 0 where
   pub behind : List Tree
-  pub children : (let q = read_as r (text_with front old rest) in kids_of_run r ≡ standing_by i n q ++ (nodes_after i n t q ++ behind))
-  pub tree_now : (let q = read_as r (text_with front old rest) in
+  pub children : (let q = read_as r (start_before edit) in kids_of_run r ≡ standing_by i n q ++ (nodes_after i n t q ++ behind))
+  pub tree_now : (let q = read_as r (start_before edit) in
       let first = length (standing_by i n q) in
-      tree k (front ++ (new ++ rest)) ≡ with_children (path_to r) first (first + length (nodes_after i n t q)) (nodes_after i m u (read_as r (text_with front new rest))) (tree k (front ++ (old ++ rest))))
+      tree k (text_after edit) ≡ with_children (path_to r) first (first + length (nodes_after i n t q)) (nodes_after i m u (read_as r (start_after edit))) (tree k (text_before edit)))
   -- after at least one piece as many trivia lead in both texts, and the exchange is the same without these, which belong to the piece before
-  pub trivia_same : 0 < i → trivia_before i (read_as r (text_with front new rest)) ≡ trivia_before i (read_as r (text_with front old rest))
-  pub after_trivia : 0 < i → (let q = read_as r (text_with front old rest) in
+  pub trivia_same : 0 < i → trivia_before i (read_as r (start_after edit)) ≡ trivia_before i (read_as r (start_before edit))
+  pub after_trivia : 0 < i → (let q = read_as r (start_before edit) in
       let first = length (standing_by i n q) in
-      tree k (front ++ (new ++ rest))
-      ≡ with_children (path_to r) (first + trivia_before i q) (first + length (nodes_after i n t q)) (drop (trivia_before i q) (nodes_after i m u (read_as r (text_with front new rest)))) (tree k (front ++ (old ++ rest))))
+      tree k (text_after edit)
+      ≡ with_children (path_to r) (first + trivia_before i q) (first + length (nodes_after i n t q)) (drop (trivia_before i q) (nodes_after i m u (read_as r (start_after edit)))) (tree k (text_before edit)))
 
 -- The law of a run's children: where an edit inside some pieces passes the test of the joint, and the new pieces take back as many errors as the old ones, one stretch of the children of the run's node is exchanged for the new pieces' nodes and the trivia after them.
 abbrev pub ChildrenLaw : Type 0
-ChildrenLaw = (k : CharClasses) (front old new rest : List ℕ) (r : Run k (front ++ (old ++ rest))) (i n m past : ℕ) (t u : Trivia) → PassesJoint k front old new rest r i n m past t u
-    → Settles n (onwards_at i n (read_as r (text_with front old rest))) → Settles m (onwards_at i m (read_as r (text_with front new rest)))
-    → (read_by i m (read_as r (text_with front new rest))).back ≡ (read_by i n (read_as r (text_with front old rest))).back → KeptChildren k front old new rest r i n m t u
+ChildrenLaw = (k : CharClasses) (edit : TextReplacement) (r : Run k (text_before edit)) (i n m past : ℕ) (t u : Trivia) → PassesJoint k edit r i n m past t u
+    → Settles n (onwards_at i n (read_as r (start_before edit))) → Settles m (onwards_at i m (read_as r (start_after edit)))
+    → (read_by i m (read_as r (start_after edit))).back ≡ (read_by i n (read_as r (start_before edit))).back → KeptChildren k edit r i n m t u
 
 -- What a block is in both texts then.
-pub record KeptNode (k : CharClasses) (levels : ℕ) (front old new rest : List ℕ) (c : Spot (Unit {0})) (i n m : ℕ) (t u : Trivia) : Type 0 where
+pub record KeptNode (k : CharClasses) (levels : ℕ) (edit : TextReplacement) (c : Spot (Unit {0})) (i n m : ℕ) (t u : Trivia) : Type 0 where
   pub closed : Bool
   pub bracket : Tree
   pub behind : List Tree
   pub ends : List Tree
   -- the block's markup is its second child
-  pub node : (let q = run_at k levels c (text_with front old rest) in c.node ≡ block_with closed bracket (standing_by i n q ++ (nodes_after i n t q ++ behind)) ends)
-  pub node_now : (let q = run_at k levels c (text_with front old rest) in let w = text_with front new rest in
+  pub node : (let q = run_at k levels c (start_before edit) in c.node ≡ block_with closed bracket (standing_by i n q ++ (nodes_after i n t q ++ behind)) ends)
+  pub node_now : (let q = run_at k levels c (start_before edit) in let w = start_after edit in
       last_node (unit_at c w).nodes ≡ block_with closed bracket (standing_by i n q ++ (nodes_after i m u (run_at k levels c w) ++ behind)) ends)
 
 abbrev pub NodeLaw : Type 0
-NodeLaw = (k : CharClasses) (levels : ℕ) (front old new rest : List ℕ) (c : Spot (Unit {0})) (among : Among c (blocks_of_text k (front ++ (old ++ rest)))) (name : c.name ≡ block.Content) (level : max_depth - c.fewer ≡ suc levels) (i n m past : ℕ) (t u : Trivia)
-    → PassesJoint k front old new rest (inner c levels among name level) i n m past t u
-    → Settles n (onwards_at i n (run_at k levels c (text_with front old rest))) → Settles m (onwards_at i m (run_at k levels c (text_with front new rest)))
-    → (read_by i m (run_at k levels c (text_with front new rest))).back ≡ (read_by i n (run_at k levels c (text_with front old rest))).back → KeptNode k levels front old new rest c i n m t u
+NodeLaw = (k : CharClasses) (levels : ℕ) (edit : TextReplacement) (c : Spot (Unit {0})) (among : Among c (blocks_of_text k (text_before edit))) (name : c.name ≡ block.Content) (level : max_depth - c.fewer ≡ suc levels) (i n m past : ℕ) (t u : Trivia)
+    → PassesJoint k edit (inner c levels among name level) i n m past t u
+    → Settles n (onwards_at i n (run_at k levels c (start_before edit))) → Settles m (onwards_at i m (run_at k levels c (start_after edit)))
+    → (read_by i m (run_at k levels c (start_after edit))).back ≡ (read_by i n (run_at k levels c (start_before edit))).back → KeptNode k levels edit c i n m t u
 
 -- Pieces take back no more errors than stand before them, and what comes after them no more than stand at their end; the states of the notes there say how many.
 pub record TakesBack (q : Sequence) (i n : ℕ) : Type 0 where

@@ -7,6 +7,7 @@ use Rattle.typst_language.specs.Ask.Ask.{looked, marked}
 use Rattle.typst_language.specs.Meaning.{Outcome}
 use Rattle.typst_edits.specs.Hole.{path_of}
 use Rattle.typst_edits.specs.Spot.{Spot, unit_at, lowered}
+use Rattle.typst_edits.specs.TextReplacement.{TextReplacement, start_before, start_after}
 
 -- one of several
 pub data Among {X : Type 0} (x : X) : List X → Type 0 where
@@ -30,17 +31,17 @@ AllBeginIn past rest (looked at look ∷ asks) = (look.back ≤ past + at) × (p
 AllBeginIn past rest (marked at gap fewer mark s ∷ asks) = AllBeginIn past rest asks
 
 -- The test: a block that goes on a given number of characters past a stretch `old`, which becomes `new`.
-pub record Passes {A : Type 0} (front old new rest : List ℕ) (c : Spot A) (past : ℕ) : Type 0 where
+pub record Passes {A : Type 0} (edit : TextReplacement) (c : Spot A) (past : ℕ) : Type 0 where
   -- the block covers the stretch strictly
-  pub starts : c.at < length front
-  pub ends : (unit_at c (text_with front old rest)).taken + c.at ≡ (length front + length old) + past
+  pub starts : c.at < length edit.front
+  pub ends : (unit_at c (start_before edit)).taken + c.at ≡ (length edit.front + length edit.old) + past
   pub goes_on : 0 < past
   -- what was looked at before the block ends at the stretch or before it
-  pub before : AllEndBy (length front) c.before
+  pub before : AllEndBy (length edit.front) c.before
   -- what was looked at after the block begins at the stretch's end or after it
-  pub after : AllBeginIn past rest c.after
+  pub after : AllBeginIn past edit.rest c.after
   -- read on the new text from its state, the block ends at the shifted end
-  pub shifted : (unit_at c (text_with front new rest)).taken + c.at ≡ (length front + length new) + past
+  pub shifted : (unit_at c (start_after edit)).taken + c.at ≡ (length edit.front + length edit.new) + past
 
 -- one of several nodes changed, by its index
 abbrev pub alter : ℕ → (Tree → Tree) → List Tree → List Tree

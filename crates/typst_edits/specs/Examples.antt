@@ -1,6 +1,8 @@
 -- Where the blocks of short texts stand, as it follows from the definitions.
 use Rattle.std.specs.Prelude.{◌≡◌, ℕ, ◌+◌, ◌-◌, max, List, [], ◌∷◌, codes, map}
 use Rattle.typst_lines.specs.Classes.{CharClasses, by_law}
+use Rattle.typst_tree.specs.Tree.{text_of}
+use Rattle.typst_language.specs.declared.calls.Block.TheVariants as block
 use Rattle.typst_language.specs.Ask.{Ask}
 use Rattle.typst_language.specs.Ask.Ask.{looked, marked}
 use Rattle.typst_edits.specs.Hole.{path_of}
@@ -23,6 +25,12 @@ pub record Blocks (beyond : CharClasses) : Type 0 where
   -- a block within a block: where they begin, and their paths
   pub places : map (λ c. c.at) (blocks_of_text (by_law beyond) (codes "@a[@b[c]]")) ≡ 2 ∷ 5 ∷ []
   pub paths : map (λ c. path_of c.hole) (blocks_of_text (by_law beyond) (codes "@a[@b[c]]")) ≡ (0 ∷ 1 ∷ []) ∷ (0 ∷ 1 ∷ 1 ∷ 0 ∷ 1 ∷ []) ∷ []
+  -- what is taken after a block, what it is, its bytes, and the nodes taken back, by it and by the whole
+  pub rests : map (λ c. c.rest) (blocks_of_text (by_law beyond) (codes "@a[b] c")) ≡ 2 ∷ []
+  pub names : map (λ c. c.name) (blocks_of_text (by_law beyond) (codes "@a[b] #{c}")) ≡ block.Content ∷ block.Code ∷ []
+  pub bytes : map (λ c. text_of c.node) (blocks_of_text (by_law beyond) (codes "@a[b] c")) ≡ codes "[b]" ∷ []
+  pub takes_back : map (λ c. c.takes_back) (blocks_of_text (by_law beyond) (codes "@a[b] c")) ≡ 0 ∷ []
+  pub back : map (λ c. c.back) (blocks_of_text (by_law beyond) (codes "@a[b] c")) ≡ 0 ∷ []
   -- each call leaves one level fewer
   pub levels : map (λ c. c.fewer) (blocks_of_text (by_law beyond) (codes "@a[@b[c]]")) ≡ 1 ∷ 2 ∷ []
   -- what is looked at before a block ends at its bracket, and after it nothing before its end is looked at

@@ -11,15 +11,15 @@ use Rattle.typst_candidates.specs.Candidates.{Candidate}
 use Rattle.typst_grammar.specs.Grammar.{max_depth}
 use Rattle.typst_grammar.specs.Markup.{ends}
 use Rattle.typst_edits.specs.BlockRuns.{run_at, opened_at, EndsBefore}
-use Rattle.typst_edits.specs.Edit.{Among, text_with, AllEndBy, AllBeginIn, Passes}
+use Rattle.typst_edits.specs.Edit.{Among, AllEndBy, AllBeginIn, Passes}
 use Rattle.typst_edits.specs.Hole.{path_of}
 use Rattle.typst_edits.specs.InnerJoint.{BeginsPast}
-use Rattle.typst_edits.specs.Joint.{text_run}
 use Rattle.typst_edits.specs.JointBytes.{asked_past}
 use Rattle.typst_edits.specs.Laws.{blocks_of_text}
-use Rattle.typst_edits.specs.Runs.{AllGo, asks_of, lead, pieces}
-use Rattle.typst_edits.specs.Sequence.{Sequence, first_of, first_end, then_of, then_end, then_place, together}
+use Rattle.typst_edits.specs.Runs.{lead, text_run}
+use Rattle.typst_edits.specs.Sequence.{Sequence, first_of, first_end, then_of, then_end, then_place, together, AllGo, asks_of}
 use Rattle.typst_edits.specs.Spot.{Spot, last_node, unit_at}
+use Rattle.typst_edits.specs.TextReplacement.{TextReplacement, text_before, start_before, start_after}
 
 -- A run of a text is its own, or that of a content block which isn't the deepest and is in no reading that was given up.
 pub data Run (k : CharClasses) (text : List ℕ) : Type 0 where
@@ -43,15 +43,15 @@ path_to {k} {text} top = []
 path_to {k} {text} (inner c levels a n l) = path_of c.hole ++ 1 ∷ []
 
 -- What is looked at for the first i pieces of a run ends at the stretch's start or before it.
-abbrev pub Before : (k : CharClasses) (front old rest : List ℕ) → Run k (front ++ (old ++ rest)) → ℕ → Type 0
-Before k front old rest top i = 0 < i → AllEndBy (length front) ((lead k (text_with front old rest)).asks ++ asks_of (pieces k i (text_with front old rest)))
-Before k front old rest (inner c levels a b l) i = EndsBefore k levels front old rest c i
+abbrev pub Before : (k : CharClasses) (edit : TextReplacement) → Run k (text_before edit) → ℕ → Type 0
+Before k edit top i = 0 < i → AllEndBy (length edit.front) ((lead k (start_before edit)).asks ++ asks_of (first_of i (text_run k (start_before edit))))
+Before k edit (inner c levels a b l) i = EndsBefore k levels edit c i
 
 -- What is looked at after the n pieces that follow the first i, and their trivia, begins at the
 -- stretch's end or after it.
-abbrev pub After : (k : CharClasses) (front old rest : List ℕ) → Run k (front ++ (old ++ rest)) → ℕ → ℕ → ℕ → Trivia → Type 0
-After k front old rest top i n past t = AllBeginIn past rest (asked_past k i n t (text_with front old rest))
-After k front old rest (inner c levels a b l) i n past t = BeginsPast k levels front old rest c i n past t
+abbrev pub After : (k : CharClasses) (edit : TextReplacement) → Run k (text_before edit) → ℕ → ℕ → ℕ → Trivia → Type 0
+After k edit top i n past t = AllBeginIn past edit.rest (asked_past k i n t (start_before edit))
+After k edit (inner c levels a b l) i n past t = BeginsPast k levels edit c i n past t
 
 -- Where the n pieces that follow the first i end, with the trivia after them.
 abbrev pub end_by : {k : CharClasses} {text : List ℕ} → Run k text → ℕ → ℕ → Trivia → Place → ℕ
@@ -76,17 +76,17 @@ Agrees {k} {text} (inner c levels a n l) true m x y = y.1 ≡ x.1
 -- where `[` replaces the `~` of `a~b]`, the kept `]` was an error and would be text. For each
 -- condition `conditions_of_texts` or `rare_conditions_of_texts` computes a text at which it alone
 -- fails and the nodes differ.
-pub record PassesPieces (k : CharClasses) (front old new rest : List ℕ) (r : Run k (front ++ (old ++ rest))) (i n m past : ℕ) (t u : Trivia) : Type 0 where
-  pub first_go : AllGo (first_of i (read_as r (text_with front old rest)))
-  pub old_go : AllGo (then_of i n (read_as r (text_with front old rest)))
-  pub new_go : AllGo (then_of i m (read_as r (text_with front new rest)))
-  pub before : Before k front old rest r i
-  pub after : After k front old rest r i n past t
-  pub known : (then_end i n (read_as r (text_with front old rest))).state.known ≡ Some t
-  pub known_now : (then_end i m (read_as r (text_with front new rest))).state.known ≡ Some u
-  pub ends : end_by r i n t (text_with front old rest) ≡ (length front + length old) + past
-  pub shifted : end_by r i m u (text_with front new rest) ≡ (length front + length new) + past
-  pub agrees : Agrees r (is_over i n (read_as r (text_with front old rest))) m (then_end i n (read_as r (text_with front old rest))).value (then_end i m (read_as r (text_with front new rest))).value
+pub record PassesPieces (k : CharClasses) (edit : TextReplacement) (r : Run k (text_before edit)) (i n m past : ℕ) (t u : Trivia) : Type 0 where
+  pub first_go : AllGo (first_of i (read_as r (start_before edit)))
+  pub old_go : AllGo (then_of i n (read_as r (start_before edit)))
+  pub new_go : AllGo (then_of i m (read_as r (start_after edit)))
+  pub before : Before k edit r i
+  pub after : After k edit r i n past t
+  pub known : (then_end i n (read_as r (start_before edit))).state.known ≡ Some t
+  pub known_now : (then_end i m (read_as r (start_after edit))).state.known ≡ Some u
+  pub ends : end_by r i n t (start_before edit) ≡ (length edit.front + length edit.old) + past
+  pub shifted : end_by r i m u (start_after edit) ≡ (length edit.front + length edit.new) + past
+  pub agrees : Agrees r (is_over i n (read_as r (start_before edit))) m (then_end i n (read_as r (start_before edit))).value (then_end i m (read_as r (start_after edit))).value
 
 -- Where the piece after the first i begins: at its first token, or the first piece where the run
 -- does.
@@ -105,9 +105,9 @@ nodes_now r i m u w =
 -- read again as a block of its kind, or pieces by the test of pieces, with the nodes of the new
 -- ones. In `@a[b]`, where `]` replaces `b`, the block doesn't pass: read again it is `[]` and ends too
 -- early, and the last `]` would be in no node.
-pub data Gives (k : CharClasses) (front old new rest : List ℕ) (c : Candidate) (ts : List Tree) : Type 0 where
-  of_block : (s : Spot (Unit {0})) (past : ℕ) → c.is_block ≡ true → Among s (blocks_of_text k (front ++ (old ++ rest))) → path_of s.hole ≡ c.path ++ c.from ∷ []
-      → Passes front old new rest s past → ts ≡ last_node (unit_at s (text_with front new rest)).nodes ∷ [] → Gives k front old new rest c ts
-  of_pieces : (r : Run k (front ++ (old ++ rest))) (i n m past : ℕ) (t u : Trivia) → c.is_block ≡ false → path_to r ≡ c.path
-      → c.start ≡ width (take (cut_at r i (text_with front old rest)) (front ++ (old ++ rest))) → (0 < i ↔ 0 < c.from) → c.end ≡ width (front ++ (old ++ take past rest))
-      → PassesPieces k front old new rest r i n m past t u → ts ≡ nodes_now r i m u (text_with front new rest) → Gives k front old new rest c ts
+pub data Gives (k : CharClasses) (edit : TextReplacement) (c : Candidate) (ts : List Tree) : Type 0 where
+  of_block : (s : Spot (Unit {0})) (past : ℕ) → c.is_block ≡ true → Among s (blocks_of_text k (text_before edit)) → path_of s.hole ≡ c.path ++ c.from ∷ []
+      → Passes edit s past → ts ≡ last_node (unit_at s (start_after edit)).nodes ∷ [] → Gives k edit c ts
+  of_pieces : (r : Run k (text_before edit)) (i n m past : ℕ) (t u : Trivia) → c.is_block ≡ false → path_to r ≡ c.path
+      → c.start ≡ width (take (cut_at r i (start_before edit)) (text_before edit)) → (0 < i ↔ 0 < c.from) → c.end ≡ width (edit.front ++ (edit.old ++ take past edit.rest))
+      → PassesPieces k edit r i n m past t u → ts ≡ nodes_now r i m u (start_after edit) → Gives k edit c ts

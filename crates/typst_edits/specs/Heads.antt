@@ -7,14 +7,12 @@ use Rattle.typst_lines.specs.Classes.{CharClasses}
 use Rattle.typst_language.specs.Point.{Trivia, Point, pending}
 use Rattle.typst_language.specs.Meaning.{Outcome, hand_of}
 use Rattle.typst_grammar.specs.Markup.{markup_head}
-use Rattle.typst_edits.specs.BlockRuns.{inner_run}
 use Rattle.typst_edits.specs.Joins.{PassesJoint}
-use Rattle.typst_edits.specs.Edit.{text_with}
-use Rattle.typst_edits.specs.Frame.{Run, read_as}
+use Rattle.typst_edits.specs.Frame.{Run, read_as, is_over, Agrees}
 use Rattle.typst_edits.specs.InnerJoint.{IsRun}
-use Rattle.typst_edits.specs.Joint.{minds, onwards, is_over_at, Meets, text_run}
-use Rattle.typst_edits.specs.Runs.{AllGo, End}
-use Rattle.typst_edits.specs.Sequence.{Sequence, first_of, first_end, then_of, then_end, then_place, onwards_at, read_by}
+use Rattle.typst_edits.specs.Joint.{minds, onwards, is_over_at, Meets}
+use Rattle.typst_edits.specs.Sequence.{Sequence, first_of, first_end, then_of, then_end, then_place, onwards_at, read_by, AllGo, End}
+use Rattle.typst_edits.specs.TextReplacement.{TextReplacement, text_before, start_before, start_after}
 
 -- whether several nodes begin with an error
 abbrev pub begins_wrong : List Tree → Bool
@@ -63,8 +61,8 @@ StartsWell i n r = 0 < i → (0 < n) × (minds_at r (first_place i r) (first_end
 
 -- The law of what pieces take back: where an edit inside some pieces passes the test of the joint, and the first of these takes no errors back or nothing stands before them, neither they nor the new ones take anything back.
 abbrev pub NoneBackLaw : Type 0
-NoneBackLaw = (k : CharClasses) (front old new rest : List ℕ) (r : Run k (front ++ (old ++ rest))) (i n m past : ℕ) (t u : Trivia) → PassesJoint k front old new rest r i n m past t u
-    → StartsWell i n (read_as r (text_with front old rest)) → NoneBack (read_by i n (read_as r (text_with front old rest))) (read_by i m (read_as r (text_with front new rest)))
+NoneBackLaw = (k : CharClasses) (edit : TextReplacement) (r : Run k (text_before edit)) (i n m past : ℕ) (t u : Trivia) → PassesJoint k edit r i n m past t u
+    → StartsWell i n (read_as r (start_before edit)) → NoneBack (read_by i n (read_as r (start_before edit))) (read_by i m (read_as r (start_after edit)))
 
 -- where an expression follows, its first node is no error
 abbrev pub GoesOnWell : ℕ → ℕ → Sequence → Type 0
@@ -72,20 +70,12 @@ GoesOnWell i n r = is_over_at r (then_place i n r) (then_end i n r) ≡ false �
 
 -- The law of what is taken back after pieces: where such an edit passes the test of the joint, what comes after them takes nothing back in either text.
 abbrev pub NoneAfterLaw : Type 0
-NoneAfterLaw = (k : CharClasses) (front old new rest : List ℕ) (r : Run k (front ++ (old ++ rest))) (i n m past : ℕ) (t u : Trivia) → PassesJoint k front old new rest r i n m past t u
-    → GoesOnWell i n (read_as r (text_with front old rest)) → NoneBack (onwards_at i n (read_as r (text_with front old rest))) (onwards_at i m (read_as r (text_with front new rest)))
+NoneAfterLaw = (k : CharClasses) (edit : TextReplacement) (r : Run k (text_before edit)) (i n m past : ℕ) (t u : Trivia) → PassesJoint k edit r i n m past t u
+    → GoesOnWell i n (read_as r (start_before edit)) → NoneBack (onwards_at i n (read_as r (start_before edit))) (onwards_at i m (read_as r (start_after edit)))
 
--- The law of what has to agree: where no error follows pieces of a text's run, they and others agree if what is carried does where an expression follows.
+-- The law of what has to agree: where no error follows pieces of a run, they and others meet what is after them if what is carried agrees.
 abbrev pub MeetsLaw : Type 0
-MeetsLaw = (k : CharClasses) (z : Place) (i n : ℕ) (f : End (Bool × ℕ)) (t u : Trivia) → AllGo (first_of i (text_run k z)) → AllGo (then_of i n (text_run k z)) → GoesOnWell i n (text_run k z)
-    → (then_end i n (text_run k z)).state.known ≡ Some t → f.state.known ≡ Some u
-    → (is_over_at (text_run k z) (then_place i n (text_run k z)) (then_end i n (text_run k z)) ≡ false → f.value ≡ (then_end i n (text_run k z)).value)
-    → Meets (text_run k z) (then_place i n (text_run k z)) (then_end i n (text_run k z)) f t u
-
--- In a content block the brackets that are open agree at its end, too.
-abbrev pub InnerMeetsLaw : Type 0
-InnerMeetsLaw = (k : CharClasses) (levels : ℕ) (z : Place) (s : Point) (i n : ℕ) (f : End (Bool × ℕ)) (t u : Trivia) → (let r = inner_run k levels z s in
-    let e = then_end i n r in
-    AllGo (first_of i r) → AllGo (then_of i n r) → GoesOnWell i n r → e.state.known ≡ Some t → f.state.known ≡ Some u
-    → (is_over_at r (then_place i n r) e ≡ false → f.value ≡ e.value) → (is_over_at r (then_place i n r) e ≡ true → f.value.1 ≡ e.value.1)
-    → Meets r (then_place i n r) e f t u)
+MeetsLaw = (k : CharClasses) (text : List ℕ) (r : Run k text) (z : Place) (i n m : ℕ) (f : End (Bool × ℕ)) (t u : Trivia) → (let q = read_as r z in
+    let e = then_end i n q in
+    AllGo (first_of i q) → AllGo (then_of i n q) → GoesOnWell i n q → e.state.known ≡ Some t → f.state.known ≡ Some u
+    → Agrees r (is_over i n q) m e.value f.value → Meets q (then_place i n q) e f t u)

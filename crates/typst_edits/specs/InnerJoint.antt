@@ -6,10 +6,12 @@ use Rattle.typst_language.specs.Ask.{shift}
 use Rattle.typst_language.specs.Point.{Trivia, Point}
 use Rattle.typst_language.specs.Meaning.{Outcome}
 use Rattle.typst_edits.specs.BlockRuns.{inner_run, run_at, close_at}
-use Rattle.typst_edits.specs.Edit.{text_with, AllBeginIn}
-use Rattle.typst_edits.specs.Joint.{onwards, passed, text_run}
+use Rattle.typst_edits.specs.Edit.{AllBeginIn}
+use Rattle.typst_edits.specs.Joint.{onwards, passed}
+use Rattle.typst_edits.specs.Runs.{text_run}
 use Rattle.typst_edits.specs.Sequence.{Sequence, then_end, then_place}
 use Rattle.typst_edits.specs.Spot.{Spot}
+use Rattle.typst_edits.specs.TextReplacement.{TextReplacement, start_before}
 
 -- A run of a text, or of a content block, wherever it is read.
 pub data IsRun (k : CharClasses) : Sequence → Type 0 where
@@ -28,6 +30,6 @@ abbrev pub left_past : {A : Type 0} → CharClasses → ℕ → ℕ → ℕ → 
 left_past k levels i n t c z = (onwards_past k levels i n t c z).taken + (close_at k levels i n c z).taken
 
 -- What is looked at after these trivia, in the block and after it, begins at the stretch's end or after it; they end so many characters past it.
-pub record BeginsPast (k : CharClasses) (levels : ℕ) (front old rest : List ℕ) (c : Spot (Unit {0})) (i n past : ℕ) (t : Trivia) : Type 0 where
-  pub inside : (let z = text_with front old rest in let o = onwards_past k levels i n t c z in AllBeginIn past rest (o.asks ++ shift o.taken (close_at k levels i n c z).asks))
-  pub behind : AllBeginIn (past + left_past k levels i n t c (text_with front old rest)) rest c.after
+pub record BeginsPast (k : CharClasses) (levels : ℕ) (edit : TextReplacement) (c : Spot (Unit {0})) (i n past : ℕ) (t : Trivia) : Type 0 where
+  pub inside : (let z = start_before edit in let o = onwards_past k levels i n t c z in AllBeginIn past edit.rest (o.asks ++ shift o.taken (close_at k levels i n c z).asks))
+  pub behind : AllBeginIn (past + left_past k levels i n t c (start_before edit)) edit.rest c.after

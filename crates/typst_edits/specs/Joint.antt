@@ -15,8 +15,7 @@ use Rattle.typst_grammar.specs.head.MarkupHead.{MarkupHead}
 use Rattle.typst_grammar.specs.head.MarkupHead.TheVariants as head
 use Rattle.typst_grammar.specs.Markup.{ends, markup_turn, markup_head}
 use Rattle.typst_grammar.specs.Grammar.{level_at, max_depth}
-use Rattle.typst_edits.specs.Runs.{End, lead, end_at, end_from}
-use Rattle.typst_edits.specs.Sequence.{Sequence}
+use Rattle.typst_edits.specs.Sequence.{Sequence, End}
 
 -- what takes back the empty errors before it: an expression that wasn't expected
 abbrev pub minds : MarkupHead → Bool
@@ -61,13 +60,3 @@ pub record Meets (r : Sequence) (z : Place) (e f : End (Bool × ℕ)) (t u : Tri
   pub over : is_over_at r z e ≡ true → (kind : SyntaxKind) → ends r.stops f.value.1 kind ≡ ends r.stops e.value.1 kind
   -- the number of empty errors matters only where the next expression takes them back
   pub errors : is_over_at r z e ≡ false → minds (markup_head e.value.0 e.value.1 (hand_of r.level z e.state).kind) ≡ true → f.state.empties ≡ e.state.empties
-
--- ---- the run of a text
-
--- a text's run
-abbrev pub text_run : CharClasses → Place → Sequence
-text_run k z = record { level = level_at k max_depth; stops = is_end; place = z; point = (lead k z).state }
-
--- where the n pieces after the first i end
-abbrev pub place_from : CharClasses → ℕ → ℕ → Place → Place
-place_from k i n z = moved (end_from k i n z).taken (moved (end_at k i z).taken z)

@@ -12,8 +12,9 @@ use Rattle.typst_edits.specs.Joint.{is_over_at}
 use Rattle.typst_edits.specs.Laws.{blocks_of_text}
 use Rattle.typst_edits.specs.RunPieces.{root_run}
 use Rattle.typst_edits.specs.RunExamples.{space, comment, lengths}
-use Rattle.typst_edits.specs.Runs.{pieces, end_from}
-use Rattle.typst_edits.specs.Sequence.{then_end, then_place}
+use Rattle.typst_edits.specs.Runs.{text_run}
+use Rattle.typst_edits.specs.Sequence.{then_end, then_place, first_of}
+use Rattle.typst_edits.specs.TextReplacement.{replacing}
 
 -- no trivia
 abbrev pub no_trivia : Trivia
@@ -50,15 +51,15 @@ block_overs beyond s = map (λ c. (let r = run_at (by_law beyond) 254 c (start_o
 -- what is computed
 pub record Joints (beyond : CharClasses) : Type 0 where
   -- a comment goes from between two newlines, which become a parbreak: the `b` after them stays
-  pub newlines_pass : PassesJoint (by_law beyond) (codes "a\n") (codes "//c") [] (codes "\n/*d*/b~e") top 0 1 1 6 two_comments one_comment
+  pub newlines_pass : PassesJoint (by_law beyond) (replacing (codes "a\n") (codes "//c") [] (codes "\n/*d*/b~e")) top 0 1 1 6 two_comments one_comment
   -- two slashes make a link of all before a brace, and of the comment before it
-  pub link_lengths : lengths (pieces (by_law beyond) 5 (start_of (codes "https:~b/*d*/{c"))) ≡ 5 ∷ 1 ∷ 1 ∷ 1 ∷ 7 ∷ []
-  pub link_now : lengths (pieces (by_law beyond) 2 (start_of (codes "https://b/*d*/{c"))) ≡ 14 ∷ 2 ∷ []
-  pub link_passes : PassesJoint (by_law beyond) (codes "https:") (codes "~") (codes "//") (codes "b/*d*/{c") top 0 4 1 6 a_comment no_trivia
+  pub link_lengths : lengths (first_of 5 (text_run (by_law beyond) (start_of (codes "https:~b/*d*/{c")))) ≡ 5 ∷ 1 ∷ 1 ∷ 1 ∷ 7 ∷ []
+  pub link_now : lengths (first_of 2 (text_run (by_law beyond) (start_of (codes "https://b/*d*/{c")))) ≡ 14 ∷ 2 ∷ []
+  pub link_passes : PassesJoint (by_law beyond) (replacing (codes "https:") (codes "~") (codes "//") (codes "b/*d*/{c")) top 0 4 1 6 a_comment no_trivia
   -- a bracket in place of a tilde leaves another nesting, and a space at the text's end other trivia: nothing after them sees it
-  pub nesting_old : (end_from (by_law beyond) 0 3 (start_of (codes "a~b"))).value ≡ (false, 0)
-  pub nesting_now : (end_from (by_law beyond) 0 3 (start_of (codes "a[b"))).value ≡ (false, 1)
-  pub nesting_passes : PassesJoint (by_law beyond) (codes "a") (codes "~") (codes "[") (codes "b") top 0 3 3 1 no_trivia no_trivia
+  pub nesting_old : (then_end 0 3 (text_run (by_law beyond) (start_of (codes "a~b")))).value ≡ (false, 0)
+  pub nesting_now : (then_end 0 3 (text_run (by_law beyond) (start_of (codes "a[b")))).value ≡ (false, 1)
+  pub nesting_passes : PassesJoint (by_law beyond) (replacing (codes "a") (codes "~") (codes "[") (codes "b")) top 0 3 3 1 no_trivia no_trivia
   -- The nodes of the second piece of `a ~b` are the tilde alone: the space before it belongs to the first, and would stand twice in the new tree if they kept it.
   pub own_nodes : nodes_now (root_run (by_law beyond) (codes "a ~b")) 1 1 no_trivia (start_of (codes "a ~b")) ≡ leaf_of kind.Shorthand (codes "~") ∷ []
   -- a comment of a line goes before a block's closing bracket, and its newline with it: a line begins there no more, but the expressions end there

@@ -6,14 +6,13 @@ use Rattle.typst_tree.specs.Replace.{replaced_at}
 use Rattle.typst_tokens.specs.Sight.{width}
 use Rattle.typst_language.specs.Point.{Trivia}
 use Rattle.typst_grammar.specs.Grammar.{start_of, tree}
-use Rattle.typst_edits.specs.Edit.{text_with}
 use Rattle.typst_edits.specs.Frame.{Run, read_as, path_to, cut_at, nodes_now, Before}
 use Rattle.typst_edits.specs.Children.{kids_of_run}
 use Rattle.typst_edits.specs.Leading.{run_from}
 use Rattle.typst_edits.specs.OneReading.{TakesNone}
 use Rattle.typst_edits.specs.RunPieces.{StandsAt}
-use Rattle.typst_edits.specs.Runs.{AllGo}
-use Rattle.typst_edits.specs.Sequence.{first_of, first_end, then_of, then_end}
+use Rattle.typst_edits.specs.Sequence.{first_of, first_end, then_of, then_end, AllGo}
+use Rattle.typst_edits.specs.TextReplacement.{TextReplacement, text_before, start_before, start_after}
 
 -- Among the nodes of a run the child `from` begins with the piece after the first a, or is the first of all before the first piece, and the child `mid` with the one d pieces later.
 pub record StandsBetween (k : CharClasses) (text : List ℕ) (r : Run k text) (a d from mid : ℕ) : Type 0 where
@@ -38,8 +37,8 @@ KeptNodesLaw = (k : CharClasses) (text : List ℕ) (r : Run k text) (a d : ℕ) 
 
 -- The law of a larger candidate's answer: its nodes put in its place are those of the reading put where this begins.
 abbrev pub PutAfterLaw : Type 0
-PutAfterLaw = (k : CharClasses) (front old new rest : List ℕ) (r : Run k (front ++ (old ++ rest))) (a d m : ℕ) (t u : Trivia) (from mid to : ℕ) (root : Tree) → bare root ≡ bare (tree k (front ++ (old ++ rest))) → 0 < d
-    → AllGo (first_of (suc (a + d)) (read_as r (text_with front old rest))) → Before k front old rest r (a + d) → (first_end (a + d) (read_as r (text_with front old rest))).state.known ≡ Some t
-    → TakesNone (a + d) (read_as r (text_with front old rest)) → StandsBetween k (front ++ (old ++ rest)) r a d from mid → mid ≤ to
-    → AllGo (then_of (a + d) m (read_as r (text_with front new rest))) → (then_end (a + d) m (read_as r (text_with front new rest))).state.known ≡ Some u
-    → replaced_at (path_to r) from to (nodes_now r a (d + m) u (text_with front new rest)) root ≡ replaced_at (path_to r) mid to (nodes_now r (a + d) m u (text_with front new rest)) root
+PutAfterLaw = (k : CharClasses) (edit : TextReplacement) (r : Run k (text_before edit)) (a d m : ℕ) (t u : Trivia) (from mid to : ℕ) (root : Tree) → bare root ≡ bare (tree k (text_before edit)) → 0 < d
+    → AllGo (first_of (suc (a + d)) (read_as r (start_before edit))) → Before k edit r (a + d) → (first_end (a + d) (read_as r (start_before edit))).state.known ≡ Some t
+    → TakesNone (a + d) (read_as r (start_before edit)) → StandsBetween k (text_before edit) r a d from mid → mid ≤ to
+    → AllGo (then_of (a + d) m (read_as r (start_after edit))) → (then_end (a + d) m (read_as r (start_after edit))).state.known ≡ Some u
+    → replaced_at (path_to r) from to (nodes_now r a (d + m) u (start_after edit)) root ≡ replaced_at (path_to r) mid to (nodes_now r (a + d) m u (start_after edit)) root

@@ -13,23 +13,24 @@ use Rattle.typst_edits.specs.Hole.{path_of}
 use Rattle.typst_edits.specs.Named.{Named}
 use Rattle.typst_edits.specs.Spot.{Spot, Fits, unit_at, last_node}
 use Rattle.typst_edits.specs.Occurrences.{level_spots}
-use Rattle.typst_edits.specs.Edit.{Among, text_with, Passes, replaced, Edited}
+use Rattle.typst_edits.specs.Edit.{Among, Passes, replaced, Edited}
+use Rattle.typst_edits.specs.TextReplacement.{TextReplacement, text_before, text_after, start_before, start_after}
 
 -- the blocks of a text, each with what stands around it
 unfoldable pub blocks_of_text : CharClasses → List ℕ → List (Spot (Unit {0}))
 blocks_of_text k text = level_spots (rules k) k max_depth whole (start_of text) (start_point markup_reading)
 
 -- What the reading and the tree of the new text are, where an edit inside a block passes the test, and the block's node is this one.
-pub record Kept (k : CharClasses) (front old new rest : List ℕ) (c : Spot (Unit {0})) (x : Tree) : Type 0 where
+pub record Kept (k : CharClasses) (edit : TextReplacement) (c : Spot (Unit {0})) (x : Tree) : Type 0 where
   -- the block leaves the state that it left, and gives this node of its kind where it gave its node
-  pub fits : Fits c (unit_at c (text_with front new rest)) x
-  pub reading : Edited (parsed k max_depth (front ++ (old ++ rest))) (parsed k max_depth (front ++ (new ++ rest))) c (unit_at c (text_with front old rest)) (unit_at c (text_with front new rest)) x
-  pub tree : tree k (front ++ (new ++ rest)) ≡ inner_of kind.Markup (forest (replaced (path_of c.hole) x (parsed k max_depth (front ++ (old ++ rest))).nodes))
+  pub fits : Fits c (unit_at c (start_after edit)) x
+  pub reading : Edited (parsed k max_depth (text_before edit)) (parsed k max_depth (text_after edit)) c (unit_at c (start_before edit)) (unit_at c (start_after edit)) x
+  pub tree : tree k (text_after edit) ≡ inner_of kind.Markup (forest (replaced (path_of c.hole) x (parsed k max_depth (text_before edit)).nodes))
 
 -- The block law: where an edit inside a block passes the test, the reading of the new text is the old one with the block's node and its part of the log exchanged.
 abbrev pub BlockLaw : Type 0
-BlockLaw = (k : CharClasses) (front old new rest : List ℕ) (c : Spot (Unit {0})) (past : ℕ)
-    → Among c (blocks_of_text k (front ++ (old ++ rest))) → Passes front old new rest c past → Kept k front old new rest c (last_node (unit_at c (text_with front new rest)).nodes)
+BlockLaw = (k : CharClasses) (edit : TextReplacement) (c : Spot (Unit {0})) (past : ℕ)
+    → Among c (blocks_of_text k (text_before edit)) → Passes edit c past → Kept k edit c (last_node (unit_at c (start_after edit)).nodes)
 
 -- what a block reads, where a given number of levels are left
 abbrev pub block_at : CharClasses → ℕ → Block → Meaning (Unit {0})

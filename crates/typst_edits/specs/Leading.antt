@@ -11,8 +11,7 @@ use Rattle.typst_edits.specs.Children.{Settles, block_with, kids_in, kids_of_run
 use Rattle.typst_edits.specs.Edit.{Among}
 use Rattle.typst_edits.specs.Frame.{Run, top, inner, read_as, opened_by, is_over}
 use Rattle.typst_edits.specs.Laws.{blocks_of_text}
-use Rattle.typst_edits.specs.Runs.{AllGo, End}
-use Rattle.typst_edits.specs.Sequence.{first_of, first_end, then_of, then_end, onwards_at, standing_by, nodes_after, trivia_before}
+use Rattle.typst_edits.specs.Sequence.{first_of, first_end, then_of, then_end, onwards_at, standing_by, nodes_after, trivia_before, AllGo, End}
 use Rattle.typst_edits.specs.Spot.{Spot, unit_at}
 
 -- how many bytes several nodes hold

@@ -1,3 +1,4 @@
+pub mod TextReplacement
 pub mod Hole
 pub mod Spot
 pub mod Every
@@ -5,8 +6,8 @@ pub mod Occurrences
 pub mod Edit
 pub mod Splice
 pub mod Named
-pub mod Runs
 pub mod Sequence
+pub mod Runs
 pub mod Bytes
 pub mod RunBytes
 pub mod Laws
@@ -53,11 +54,9 @@ pub mod AnswerExamples
 pub mod BlockSplice
 pub mod BlockPart
 pub mod RunSplice
-pub mod InnerSplice
 pub mod SpliceExamples
 pub mod InnerSpliceExamples
 pub mod PiecesLog
-pub mod InnerPiecesLog
 pub mod RootWorth
 pub mod InnerWorth
 pub mod BlockWorth

@@ -15,8 +15,8 @@ use Rattle.typst_edits.specs.Laws.{blocks_of_text}
 use Rattle.typst_edits.specs.Occurrences.{goes}
 use Rattle.typst_edits.specs.PieceNotes.{listed, Says}
 use Rattle.typst_edits.specs.RunBytes.{PieceNote}
-use Rattle.typst_edits.specs.Runs.{AllGo, End, piece_at, pieces, end_at}
-use Rattle.typst_edits.specs.Sequence.{turn_of, first_of, first_end}
+use Rattle.typst_edits.specs.Runs.{piece_at, text_run}
+use Rattle.typst_edits.specs.Sequence.{turn_of, first_of, first_end, AllGo, End}
 use Rattle.typst_edits.specs.Spot.{Spot, unit_at}
 
 -- the notes that say that a given number of levels are left
@@ -42,10 +42,10 @@ pub record SaysOf (text : List ℕ) (e : ℕ → End (Bool × ℕ)) (i : ℕ) (n
 -- The notes of a text's run: one more than it has pieces, each where as many pieces end as its number says.
 pub record NumberedRun (k : CharClasses) (text : List ℕ) : Type 0 where
   pub count : ℕ
-  pub go : AllGo (pieces k count (start_of text))
-  pub over : (let e = end_at k count (start_of text) in goes (piece_at k e.value (moved e.taken (start_of text)) e.state) ≡ false)
+  pub go : AllGo (first_of count (text_run k (start_of text)))
+  pub over : (let e = first_end count (text_run k (start_of text)) in goes (piece_at k e.value (moved e.taken (start_of text)) e.state) ≡ false)
   pub all : length (of_level max_depth (listed (log k text).notes)) ≡ suc count
-  pub each : Numbered (SaysOf text (λ i. end_at k i (start_of text))) 0 (of_level max_depth (listed (log k text).notes))
+  pub each : Numbered (SaysOf text (λ i. first_end i (text_run k (start_of text)))) 0 (of_level max_depth (listed (log k text).notes))
 
 -- The law of the numbers of a run's notes: of the notes that say that all levels are left the one of each number stands where a given number of pieces of the run end.
 abbrev pub NumberedRunLaw : Type 0
@@ -78,12 +78,12 @@ NumberedInnerLaw = (k : CharClasses) (levels : ℕ) (text : List ℕ) (c : Spot 
 
 -- The law of a note's number: a note where a given number of pieces of a text's run end has as many of the run's notes before it.
 abbrev pub NumberLaw : Type 0
-NumberLaw = (k : CharClasses) (text : List ℕ) (i : ℕ) → AllGo (pieces k i (start_of text)) → (p : PieceNote (log k text) max_depth text (end_at k i (start_of text))) → length (of_level max_depth p.earlier) ≡ i
+NumberLaw = (k : CharClasses) (text : List ℕ) (i : ℕ) → AllGo (first_of i (text_run k (start_of text))) → (p : PieceNote (log k text) max_depth text (first_end i (text_run k (start_of text)))) → length (of_level max_depth p.earlier) ≡ i
 
 -- The law of cuts: after more pieces of a text's run the next token begins at a later byte.
 abbrev pub CutsLaw : Type 0
-CutsLaw = (k : CharClasses) (text : List ℕ) (i j : ℕ) → i < j → AllGo (pieces k j (start_of text))
-    → (let z = start_of text in width (take (cut_after i (end_at k i z)) text) < width (take (cut_after j (end_at k j z)) text))
+CutsLaw = (k : CharClasses) (text : List ℕ) (i j : ℕ) → i < j → AllGo (first_of j (text_run k (start_of text)))
+    → (let z = start_of text in width (take (cut_after i (first_end i (text_run k z))) text) < width (take (cut_after j (first_end j (text_run k z))) text))
 
 -- So in a content block.
 abbrev pub InnerCutsLaw : Type 0

@@ -106,7 +106,8 @@ bounded_spots b m sp z s = here_spot b m z s ∷ map (closed_spot b s) (sp z (fo
 
 -- the spots of what a parser reads, for each word of the language: those of its parts, moved to where
 -- they are in the whole. A reading that is given up has none: in `#((x: [b]) => x)` the node of `[b]`
--- from the first reading is in no tree, and its path would lead an edit to another node, or to none
+-- from the first reading is in no tree, and its path would lead an edit to another node, or to none.
+-- `blocks_of_texts` and `origins_of_texts` compute those of short texts
 module _ (l : Level) (deep_spots : (c : Call) → Spots (Answer c)) (block_spots : Block → Spots (Unit {0})) where
   unfoldable pub spots : {A : Type 0} → Parser A → Spots A
   spots (gives a) z s = []

@@ -4,55 +4,54 @@ use Rattle.typst_lines.specs.Place.{Place, moved}
 use Rattle.typst_lines.specs.Classes.{CharClasses}
 use Rattle.typst_language.specs.Point.{Trivia}
 use Rattle.typst_language.specs.Meaning.{Outcome}
-use Rattle.typst_edits.specs.Edit.{text_with}
 use Rattle.typst_edits.specs.Frame.{Run, read_as, opened_by, end_by, is_over, nodes_now, Before, After, Agrees, PassesPieces}
 use Rattle.typst_edits.specs.Heads.{first_place, minds_at}
 use Rattle.typst_edits.specs.Resumed.{fresh, read_again}
-use Rattle.typst_edits.specs.Runs.{AllGo, End, end_of}
-use Rattle.typst_edits.specs.Sequence.{Sequence, first_of, first_end, then_of, then_end, together}
+use Rattle.typst_edits.specs.Sequence.{Sequence, first_of, first_end, then_of, then_end, together, AllGo, End, end_of}
+use Rattle.typst_edits.specs.TextReplacement.{TextReplacement, text_before, start_before, start_after}
 
 -- The piece after the first i takes no errors back, or there are none before it.
 abbrev pub TakesNone : ℕ → Sequence → Type 0
 TakesNone i q = minds_at q (first_place i q) (first_end i q) ≡ true → (first_end i q).state.empties ≡ 0
 
 -- What the test says of the old text after the first a pieces: n more end, with their trivia, so many characters past the stretch, and what is looked at after them begins at its end or after it.
-pub record EndsOld (k : CharClasses) (front old rest : List ℕ) (r : Run k (front ++ (old ++ rest))) (a n past : ℕ) (t : Trivia) : Type 0 where
-  pub old_go : AllGo (then_of a n (read_as r (text_with front old rest)))
-  pub after : After k front old rest r a n past t
-  pub known : (then_end a n (read_as r (text_with front old rest))).state.known ≡ Some t
-  pub ends : end_by r a n t (text_with front old rest) ≡ (length front + length old) + past
+pub record EndsOld (k : CharClasses) (edit : TextReplacement) (r : Run k (text_before edit)) (a n past : ℕ) (t : Trivia) : Type 0 where
+  pub old_go : AllGo (then_of a n (read_as r (start_before edit)))
+  pub after : After k edit r a n past t
+  pub known : (then_end a n (read_as r (start_before edit))).state.known ≡ Some t
+  pub ends : end_by r a n t (start_before edit) ≡ (length edit.front + length edit.old) + past
 
 -- What it says of the new text, by a reading that begins d pieces later: m pieces of it end, with their trivia, a given number of characters past the new stretch, and carry there what n old pieces do.
-pub record EndsNew (k : CharClasses) (front old new rest : List ℕ) (r : Run k (front ++ (old ++ rest))) (a n d m past : ℕ) (u : Trivia) : Type 0 where
-  pub new_go : AllGo (then_of (a + d) m (read_as r (text_with front new rest)))
-  pub known_now : (then_end (a + d) m (read_as r (text_with front new rest))).state.known ≡ Some u
-  pub shifted : end_by r (a + d) m u (text_with front new rest) ≡ (length front + length new) + past
-  pub agrees : Agrees r (is_over a n (read_as r (text_with front old rest))) (d + m) (then_end a n (read_as r (text_with front old rest))).value (then_end (a + d) m (read_as r (text_with front new rest))).value
+pub record EndsNew (k : CharClasses) (edit : TextReplacement) (r : Run k (text_before edit)) (a n d m past : ℕ) (u : Trivia) : Type 0 where
+  pub new_go : AllGo (then_of (a + d) m (read_as r (start_after edit)))
+  pub known_now : (then_end (a + d) m (read_as r (start_after edit))).state.known ≡ Some u
+  pub shifted : end_by r (a + d) m u (start_after edit) ≡ (length edit.front + length edit.new) + past
+  pub agrees : Agrees r (is_over a n (read_as r (start_before edit))) (d + m) (then_end a n (read_as r (start_before edit))).value (then_end (a + d) m (read_as r (start_after edit))).value
 
 -- What a reading of the new text that begins after the first a + d pieces says of pieces that begin after the first a.
-pub record ServesMore (k : CharClasses) (front old new rest : List ℕ) (r : Run k (front ++ (old ++ rest))) (a d : ℕ) : Type 0 where
+pub record ServesMore (k : CharClasses) (edit : TextReplacement) (r : Run k (text_before edit)) (a d : ℕ) : Type 0 where
   -- the looks before these pieces end before the stretch, too
-  pub fewer : Before k front old rest r a
+  pub fewer : Before k edit r a
   -- the reading begins at the same place and point as in the old text, and takes no errors back if the old piece there didn't
-  pub opens : opened_by r (text_with front new rest) ≡ opened_by r (text_with front old rest)
-  pub begins : 0 < a + d → first_end (a + d) (read_as r (text_with front new rest)) ≡ first_end (a + d) (read_as r (text_with front old rest))
-  pub clear : 0 < a + d → TakesNone (a + d) (read_as r (text_with front old rest)) → TakesNone (a + d) (read_as r (text_with front new rest))
+  pub opens : opened_by r (start_after edit) ≡ opened_by r (start_before edit)
+  pub begins : 0 < a + d → first_end (a + d) (read_as r (start_after edit)) ≡ first_end (a + d) (read_as r (start_before edit))
+  pub clear : 0 < a + d → TakesNone (a + d) (read_as r (start_before edit)) → TakesNone (a + d) (read_as r (start_after edit))
   -- the pieces that begin after the first a are d old ones, and those of the reading
-  pub pieces : (m : ℕ) → then_of a (d + m) (read_as r (text_with front new rest)) ≡ then_of a d (read_as r (text_with front old rest)) ++ then_of (a + d) m (read_as r (text_with front new rest))
+  pub pieces : (m : ℕ) → then_of a (d + m) (read_as r (start_after edit)) ≡ then_of a d (read_as r (start_before edit)) ++ then_of (a + d) m (read_as r (start_after edit))
   -- they pass the test exactly if the old text is as it says and the reading ends there
-  pub passes : (n m past : ℕ) (t u : Trivia) → PassesPieces k front old new rest r a n (d + m) past t u ↔ (EndsOld k front old rest r a n past t × EndsNew k front old new rest r a n d m past u)
+  pub passes : (n m past : ℕ) (t u : Trivia) → PassesPieces k edit r a n (d + m) past t u ↔ (EndsOld k edit r a n past t × EndsNew k edit r a n d m past u)
   -- and none pass that end before the reading begins
-  pub least : (n m past : ℕ) (t u : Trivia) → PassesPieces k front old new rest r a n m past t u → d ≤ m
+  pub least : (n m past : ℕ) (t u : Trivia) → PassesPieces k edit r a n m past t u → d ≤ m
   -- their nodes are those of the old pieces, up to where the reading begins, and those of the reading
-  pub nodes : (m : ℕ) (t u : Trivia) → 0 < a + d → TakesNone (a + d) (read_as r (text_with front old rest))
-      → (first_end (a + d) (read_as r (text_with front old rest))).state.known ≡ Some t
-      → AllGo (then_of (a + d) m (read_as r (text_with front new rest))) → (then_end (a + d) m (read_as r (text_with front new rest))).state.known ≡ Some u
-      → nodes_now r a (d + m) u (text_with front new rest) ≡ nodes_now r a d t (text_with front old rest) ++ nodes_now r (a + d) m u (text_with front new rest)
+  pub nodes : (m : ℕ) (t u : Trivia) → 0 < a + d → TakesNone (a + d) (read_as r (start_before edit))
+      → (first_end (a + d) (read_as r (start_before edit))).state.known ≡ Some t
+      → AllGo (then_of (a + d) m (read_as r (start_after edit))) → (then_end (a + d) m (read_as r (start_after edit))).state.known ≡ Some u
+      → nodes_now r a (d + m) u (start_after edit) ≡ nodes_now r a d t (start_before edit) ++ nodes_now r (a + d) m u (start_after edit)
 
 -- The law of one reading: where the looks before some pieces of a run end before the stretch, a reading of the new text that begins after them serves all pieces of the run that begin there or earlier.
 abbrev pub OneReadingLaw : Type 0
-OneReadingLaw = (k : CharClasses) (front old new rest : List ℕ) (r : Run k (front ++ (old ++ rest))) (a d : ℕ)
-    → AllGo (first_of (a + d) (read_as r (text_with front old rest))) → Before k front old rest r (a + d) → ServesMore k front old new rest r a d
+OneReadingLaw = (k : CharClasses) (edit : TextReplacement) (r : Run k (text_before edit)) (a d : ℕ)
+    → AllGo (first_of (a + d) (read_as r (start_before edit))) → Before k edit r (a + d) → ServesMore k edit r a d
 
 -- where pieces end that are read again from the token after the first i
 abbrev pub again_end : ℕ → ℕ → Trivia → Sequence → End (Bool × ℕ)

@@ -11,8 +11,8 @@ use Rattle.typst_edits.specs.BlockRuns.{run_at}
 use Rattle.typst_edits.specs.Edit.{Among}
 use Rattle.typst_edits.specs.InnerBytes.{inner_end}
 use Rattle.typst_edits.specs.Laws.{blocks_of_text}
-use Rattle.typst_edits.specs.Runs.{AllGo, End, pieces, end_at}
-use Rattle.typst_edits.specs.Sequence.{first_of}
+use Rattle.typst_edits.specs.Runs.{text_run}
+use Rattle.typst_edits.specs.Sequence.{first_of, AllGo, End, first_end}
 use Rattle.typst_edits.specs.Spot.{Spot}
 
 -- the notes that are kept
@@ -29,8 +29,8 @@ pub record Says (text : List ℕ) (note : Note) (e : End (Bool × ℕ)) : Type 0
 -- It is the note where a given number of pieces of a text's run end.
 pub record OfRun (k : CharClasses) (text : List ℕ) (note : Note) : Type 0 where
   pub count : ℕ
-  pub go : AllGo (pieces k count (start_of text))
-  pub says : Says text note (end_at k count (start_of text))
+  pub go : AllGo (first_of count (text_run k (start_of text)))
+  pub says : Says text note (first_end count (text_run k (start_of text)))
 
 -- The law of a run's notes: a note of a text's log that says that all levels are left is one where pieces of its run end.
 abbrev pub RunNotesLaw : Type 0

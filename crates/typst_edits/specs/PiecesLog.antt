@@ -1,27 +1,26 @@
 -- What is logged of pieces that are read again from their first token.
-use Rattle.std.specs.Prelude.{◌≡◌, ℕ, ◌+◌, ◌<◌, true, List, ◌++◌, Some}
-use Rattle.typst_lines.specs.Classes.{CharClasses}
+use Rattle.std.specs.Prelude.{◌≡◌, ℕ, ◌<◌, List, ◌++◌, Some}
 use Rattle.typst_lines.specs.Place.{Place, moved}
+use Rattle.typst_lines.specs.Classes.{CharClasses}
 use Rattle.typst_language.specs.Ask.{Ask}
 use Rattle.typst_language.specs.Log.{no_log, logged}
+use Rattle.typst_language.specs.Meaning.{start_point, run}
 use Rattle.typst_language.specs.Point.{Trivia}
-use Rattle.typst_grammar.specs.Grammar.{max_depth}
-use Rattle.typst_edits.specs.Heads.{minds_at}
-use Rattle.typst_edits.specs.Joint.{text_run}
+use Rattle.typst_language.specs.Steps.{peek}
+use Rattle.typst_grammar.specs.Markup.{markup_reading}
+use Rattle.typst_edits.specs.Frame.{Run, read_as}
+use Rattle.typst_edits.specs.Heads.{first_place}
+use Rattle.typst_edits.specs.OneReading.{TakesNone}
 use Rattle.typst_edits.specs.Resumed.{read_again}
-use Rattle.typst_edits.specs.RunSplice.{pieces_log}
-use Rattle.typst_edits.specs.Runs.{AllGo, asks_of, lead, pieces, end_at, pieces_from}
+use Rattle.typst_edits.specs.RunSplice.{levels_of, pieces_log}
+use Rattle.typst_edits.specs.Sequence.{Sequence, AllGo, asks_of, first_of, first_end, then_of}
 
--- the place after these trivia, which follow the first i pieces
-abbrev pub token_place : CharClasses → ℕ → Trivia → Place → Place
-token_place k i t z = moved ((end_at k i z).taken + t.gap) z
-
--- what is asked where m pieces are read again from there, as a run is from its start
-abbrev pub asked_again : CharClasses → ℕ → ℕ → Trivia → Place → List Ask
-asked_again k i m t z = (lead k (token_place k i t z)).asks ++ asks_of (read_again i m t (text_run k z))
+-- what is asked where m pieces are read again from after these trivia, as a run is from its start
+abbrev pub asks_again : ℕ → ℕ → Trivia → Sequence → List Ask
+asks_again i m t r = (run r.level peek (moved t.gap (first_place i r)) (start_point markup_reading)).asks ++ asks_of (read_again i m t r)
 
 -- The law of a pieces' log: where an expression that takes back errors has none before it, the same is logged of pieces that are read again from their first token.
 abbrev pub PiecesLogLaw : Type 0
-PiecesLogLaw = (k : CharClasses) (z : Place) (i m : ℕ) (t : Trivia) → 0 < i → AllGo (pieces k i z) → AllGo (pieces_from k i m z) → (end_at k i z).state.known ≡ Some t
-    → (minds_at (text_run k z) (moved (end_at k i z).taken z) (end_at k i z) ≡ true → (end_at k i z).state.empties ≡ 0)
-    → pieces_log k i m z ≡ logged max_depth (token_place k i t z) no_log (asked_again k i m t z)
+PiecesLogLaw = (k : CharClasses) (text : List ℕ) (r : Run k text) (z : Place) (i m : ℕ) (t : Trivia) → (let q = read_as r z in
+    0 < i → AllGo (first_of i q) → AllGo (then_of i m q) → (first_end i q).state.known ≡ Some t → TakesNone i q
+    → pieces_log r i m z ≡ logged (levels_of r) (moved t.gap (first_place i q)) no_log (asks_again i m t q))

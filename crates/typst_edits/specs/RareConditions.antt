@@ -25,7 +25,8 @@ use Rattle.typst_edits.specs.Hole.{path_of}
 use Rattle.typst_edits.specs.JointBytes.{asked_past}
 use Rattle.typst_edits.specs.Laws.{block_at}
 use Rattle.typst_edits.specs.Occurrences.{level_spots}
-use Rattle.typst_edits.specs.Runs.{end_from}
+use Rattle.typst_edits.specs.Runs.{text_run}
+use Rattle.typst_edits.specs.Sequence.{then_end}
 use Rattle.typst_edits.specs.Spot.{Spot, unit_at}
 
 -- the newlines of the trivia at hand, where they are known
@@ -35,7 +36,7 @@ newlines_in (Some t) = t.newlines
 
 -- what is asked after the trivia that follow the first piece of a text
 abbrev pub asked_after : CharClasses → List ℕ → List Ask
-asked_after k s = elim (end_from k 0 1 (start_of s)).state.known [ None ↦ [] | Some t ↦ asked_past k 0 1 t (start_of s) ]
+asked_after k s = elim (then_end 0 1 (text_run k (start_of s))).state.known [ None ↦ [] | Some t ↦ asked_past k 0 1 t (start_of s) ]
 
 -- a content block in brackets, with these nodes in it
 abbrev pub in_brackets : List Tree → Tree
@@ -101,11 +102,11 @@ less_indented = codes "a\n/*\nxx*/- b\n   - c"
 -- what is computed
 pub record RareConditions (beyond : CharClasses) : Type 0 where
   -- a column: `xx` put in after the second newline, within the comment after the first piece, which is read again
-  pub column_ends : map (λ s. (end_from (by_law beyond) 0 1 (start_of s)).taken) (indented ∷ less_indented ∷ []) ≡ 1 ∷ 1 ∷ []
-  pub column_gaps : map (λ s. gap_of (end_from (by_law beyond) 0 1 (start_of s)).state.known) (indented ∷ less_indented ∷ []) ≡ 6 ∷ 8 ∷ []
-  pub column_newlines : newlines_in (end_from (by_law beyond) 0 1 (start_of less_indented)).state.known ≡ newlines_in (end_from (by_law beyond) 0 1 (start_of indented)).state.known
-  pub column_value : (end_from (by_law beyond) 0 1 (start_of less_indented)).value ≡ (end_from (by_law beyond) 0 1 (start_of indented)).value
-  pub column_state : state_of (end_from (by_law beyond) 0 1 (start_of less_indented)).state ≡ state_of (end_from (by_law beyond) 0 1 (start_of indented)).state
+  pub column_ends : map (λ s. (then_end 0 1 (text_run (by_law beyond) (start_of s))).taken) (indented ∷ less_indented ∷ []) ≡ 1 ∷ 1 ∷ []
+  pub column_gaps : map (λ s. gap_of (then_end 0 1 (text_run (by_law beyond) (start_of s))).state.known) (indented ∷ less_indented ∷ []) ≡ 6 ∷ 8 ∷ []
+  pub column_newlines : newlines_in (then_end 0 1 (text_run (by_law beyond) (start_of less_indented))).state.known ≡ newlines_in (then_end 0 1 (text_run (by_law beyond) (start_of indented))).state.known
+  pub column_value : (then_end 0 1 (text_run (by_law beyond) (start_of less_indented))).value ≡ (then_end 0 1 (text_run (by_law beyond) (start_of indented))).value
+  pub column_state : state_of (then_end 0 1 (text_run (by_law beyond) (start_of less_indented))).state ≡ state_of (then_end 0 1 (text_run (by_law beyond) (start_of indented))).state
   -- but the item after the comment, two characters past the stretch, looks three back for its column
   pub column_after : least (asked_after (by_law beyond) indented) ≡ 3
   -- and the second item is no longer in the first

@@ -9,8 +9,7 @@ use Rattle.typst_language.specs.Meaning.{Outcome, Level, start_point, run}
 use Rattle.typst_grammar.specs.Markup.{markup_reading}
 use Rattle.typst_edits.specs.Heads.{first_place, minds_at}
 use Rattle.typst_edits.specs.InnerJoint.{IsRun}
-use Rattle.typst_edits.specs.Runs.{AllGo, made}
-use Rattle.typst_edits.specs.Sequence.{Sequence, turn_of, first_of, first_end, then_of, then_end}
+use Rattle.typst_edits.specs.Sequence.{Sequence, turn_of, first_of, first_end, then_of, then_end, made, AllGo}
 
 -- Of a run's start the look at the token there alone is known.
 abbrev pub fresh : Level → Place → Point

@@ -12,12 +12,11 @@ use Rattle.typst_edits.specs.BlockTest.{SaysBlock, entries_in}
 use Rattle.typst_edits.specs.Edit.{Among}
 use Rattle.typst_edits.specs.Frame.{is_over}
 use Rattle.typst_edits.specs.InnerBytes.{inner_end}
-use Rattle.typst_edits.specs.Joint.{text_run}
 use Rattle.typst_edits.specs.Laws.{blocks_of_text}
 use Rattle.typst_edits.specs.NumberedNotes.{cut_after}
 use Rattle.typst_edits.specs.RunTest.{SaysPiece, IsLast, BeginsAt}
-use Rattle.typst_edits.specs.Runs.{AllGo, asks_of, pieces, end_at}
-use Rattle.typst_edits.specs.Sequence.{first_of}
+use Rattle.typst_edits.specs.Runs.{text_run}
+use Rattle.typst_edits.specs.Sequence.{first_of, AllGo, asks_of, first_end}
 use Rattle.typst_edits.specs.Splice.{notes_in}
 use Rattle.typst_edits.specs.Spot.{Spot}
 
@@ -25,24 +24,24 @@ use Rattle.typst_edits.specs.Spot.{Spot}
 
 -- the byte at which the token after the first i pieces begins; before the first piece it is where the run begins
 abbrev pub cut_of : CharClasses → List ℕ → ℕ → ℕ
-cut_of k text i = let z = start_of text in width (take (cut_after i (end_at k i z)) text)
+cut_of k text i = let z = start_of text in width (take (cut_after i (first_end i (text_run k z))) text)
 
 -- the number of the entry where i pieces end
 abbrev pub number_of : CharClasses → List ℕ → ℕ → ℕ
-number_of k text i = notes_in (asks_of (pieces k i (start_of text)))
+number_of k text i = notes_in (asks_of (first_of i (text_run k (start_of text))))
 
 -- A text's run has a given number of pieces, and its entries are found by where the pieces begin.
 pub record RunNumbers (k : CharClasses) (text : List ℕ) : Type 0 where
   pub count : ℕ
-  pub go : AllGo (pieces k count (start_of text))
-  pub most : (i : ℕ) → AllGo (pieces k i (start_of text)) → i ≤ count
+  pub go : AllGo (first_of count (text_run k (start_of text)))
+  pub most : (i : ℕ) → AllGo (first_of i (text_run k (start_of text))) → i ≤ count
   pub over : (i n : ℕ) → i + n ≤ count → is_over i n (text_run k (start_of text)) ≡ (i + n == count)
   pub begins : (i : ℕ) → i ≤ count → BeginsAt (entries_in k text) 0 (cut_of k text i) (number_of k text i)
   pub goes_on : (i j : ℕ) → i ≤ j → j ≤ count → BeginsAt (entries_in k text) (number_of k text i) (cut_of k text j) (number_of k text j)
   pub rises : (i j : ℕ) → i < j → j ≤ count → number_of k text i < number_of k text j
   pub last : IsLast (entries_in k text) (number_of k text count)
   pub not_last : (i : ℕ) → i < count → IsLast (entries_in k text) (number_of k text i) → ⊥
-  pub says : (i : ℕ) → i ≤ count → SaysPiece (entries_in k text) (number_of k text i) (end_at k i (start_of text)).value
+  pub says : (i : ℕ) → i ≤ count → SaysPiece (entries_in k text) (number_of k text i) (first_end i (text_run k (start_of text))).value
 
 -- The law of the entries of a text's run.
 abbrev pub RunNumbersLaw : Type 0

@@ -22,12 +22,14 @@ use Rattle.typst_grammar.specs.declared.part.RunKind.{RunKind}
 use Rattle.typst_grammar.specs.declared.part.RunKind.TheVariants as of
 use Rattle.typst_grammar.specs.Grammar.{max_depth, log, tree}
 use Rattle.typst_grammar.specs.Part.{IsOver}
-use Rattle.typst_grammar.specs.Pieces.{AllGo, asks_of, given, run_level, stops_of, first_look, pieces_on, end_on}
+use Rattle.typst_grammar.specs.Pieces.{given, run_level, stops_of, first_look, pieces_on, end_on}
 use Rattle.typst_edits.specs.Answer.{candidates}
 use Rattle.typst_edits.specs.BlockTest.{SaysBlock, entries_in, entries_alone, front_in, rear_in}
-use Rattle.typst_edits.specs.Edit.{Among, text_with}
+use Rattle.typst_edits.specs.Edit.{Among}
 use Rattle.typst_edits.specs.Frame.{Gives}
 use Rattle.typst_edits.specs.PieceNotes.{listed}
+use Rattle.typst_edits.specs.Sequence.{AllGo, asks_of}
+use Rattle.typst_edits.specs.TextReplacement.{TextReplacement, text_before, text_after, start_after}
 
 -- ---- pieces by themselves
 
@@ -46,8 +48,8 @@ abbrev pub reading_on : RunKind → ℕ → Bool × ℕ → Place → Reading
 reading_on which levels x z = record { which = which; levels = levels; carried = x; place = z }
 
 -- the first m pieces that it reads
-abbrev pub read_by : CharClasses → Reading → ℕ → List (Outcome (Bool × (Bool × ℕ)))
-read_by k r m = pieces_on (run_level k r.levels r.which) (stops_of r.which) r.carried m r.place
+abbrev pub pieces_by : CharClasses → Reading → ℕ → List (Outcome (Bool × (Bool × ℕ)))
+pieces_by k r m = pieces_on (run_level k r.levels r.which) (stops_of r.which) r.carried m r.place
 
 -- what the first m pieces carry at their end
 abbrev pub carried_by : CharClasses → Reading → ℕ → Bool × ℕ
@@ -59,11 +61,11 @@ byte_after k r m = let e = end_on (run_level k r.levels r.which) (stops_of r.whi
 
 -- their nodes, with the trivia after them
 abbrev pub nodes_by : CharClasses → Reading → ℕ → List Tree
-nodes_by k r m = given (read_by k r m) [] ++ pending (end_on (run_level k r.levels r.which) (stops_of r.which) r.carried m r.place).state.known
+nodes_by k r m = given (pieces_by k r m) [] ++ pending (end_on (run_level k r.levels r.which) (stops_of r.which) r.carried m r.place).state.known
 
 -- what is noted of them
 abbrev pub notes_by : CharClasses → Reading → ℕ → List Note
-notes_by k r m = listed (logged r.levels r.place no_log ((first_look (run_level k r.levels r.which) r.place).asks ++ asks_of (read_by k r m))).notes
+notes_by k r m = listed (logged r.levels r.place no_log ((first_look (run_level k r.levels r.which) r.place).asks ++ asks_of (pieces_by k r m))).notes
 
 -- ---- what the entries say
 
@@ -101,71 +103,71 @@ pub record Meets (es : List Entry) (which : RunKind) (to m : ℕ) (x y : Bool ×
   pub block_end : IsLast es to → which ≡ of.Block → y.1 ≡ x.1
 
 -- m pieces by themselves pass: the entry where the old ones begin is among those before the stretch, all looks after the old ones begin after it, and the new ones end at the shifted end and meet what is there.
-pub record PassesRead (k : CharClasses) (front old new rest : List ℕ) (c : Candidate) (r : Reading) (from to looks : ℕ) (x : Bool × ℕ) (m : ℕ) : Type 0 where
-  pub before : from < front_in k front old rest
-  pub behind : rear_in k front old rest ≤ looks
-  pub go : AllGo (read_by k r m)
-  pub shifted : byte_after k r m + width old ≡ c.end + width new
-  pub meets : Meets (entries_in k (front ++ (old ++ rest))) r.which to m x (carried_by k r m)
+pub record PassesRead (k : CharClasses) (edit : TextReplacement) (c : Candidate) (r : Reading) (from to looks : ℕ) (x : Bool × ℕ) (m : ℕ) : Type 0 where
+  pub before : from < front_in k edit
+  pub behind : rear_in k edit ≤ looks
+  pub go : AllGo (pieces_by k r m)
+  pub shifted : byte_after k r m + width edit.old ≡ c.end + width edit.new
+  pub meets : Meets (entries_in k (text_before edit)) r.which to m x (carried_by k r m)
 
 -- What is found of a candidate that is pieces of a run, whose first entry has a number: by what the entries say of it, it passes exactly where a given number of pieces do that are read by themselves, and these are its nodes.
-pub record FoundRun (k : CharClasses) (front old new rest : List ℕ) (c : Candidate) (which : RunKind) (levels first : ℕ) : Type 0 where
+pub record FoundRun (k : CharClasses) (edit : TextReplacement) (c : Candidate) (which : RunKind) (levels first : ℕ) : Type 0 where
   pub from : ℕ
   pub to : ℕ
   pub looks : ℕ
   pub carried : Bool × ℕ
   pub carried_end : Bool × ℕ
-  pub ends : Ends (entries_in k (front ++ (old ++ rest))) first c from to
-  pub looks_from : LooksFrom (entries_in k (front ++ (old ++ rest))) which from to looks
-  pub says : SaysPiece (entries_in k (front ++ (old ++ rest))) from carried
-  pub says_end : SaysPiece (entries_in k (front ++ (old ++ rest))) to carried_end
+  pub ends : Ends (entries_in k (text_before edit)) first c from to
+  pub looks_from : LooksFrom (entries_in k (text_before edit)) which from to looks
+  pub says : SaysPiece (entries_in k (text_before edit)) from carried
+  pub says_end : SaysPiece (entries_in k (text_before edit)) to carried_end
   -- it begins a given number of characters further on, in both texts, if its entry is among those before the stretch
   pub at : ℕ
-  pub start : c.start ≡ width (take at (front ++ (old ++ rest)))
-  pub start_now : from < front_in k front old rest → position (moved at (text_with front new rest)) ≡ c.start
-  pub gives : (ts : List Tree) → (let r = reading_on which levels carried (moved at (text_with front new rest)) in
-      Gives k front old new rest c ts ↔ ((m : ℕ) × PassesRead k front old new rest c r from to looks carried_end m × (ts ≡ nodes_by k r m)))
+  pub start : c.start ≡ width (take at (text_before edit))
+  pub start_now : from < front_in k edit → position (moved at (start_after edit)) ≡ c.start
+  pub gives : (ts : List Tree) → (let r = reading_on which levels carried (moved at (start_after edit)) in
+      Gives k edit c ts ↔ ((m : ℕ) × PassesRead k edit c r from to looks carried_end m × (ts ≡ nodes_by k r m)))
   -- more pieces end at a later byte, and after the end of the run there are none
-  pub rises : from < front_in k front old rest → (m j : ℕ) → (let r = reading_on which levels carried (moved at (text_with front new rest)) in
-      m < j → AllGo (read_by k r j) → byte_after k r m < byte_after k r j)
+  pub rises : from < front_in k edit → (m j : ℕ) → (let r = reading_on which levels carried (moved at (start_after edit)) in
+      m < j → AllGo (pieces_by k r j) → byte_after k r m < byte_after k r j)
   -- its entries are exchanged for those of the pieces; so it is in a block where there are pieces in both texts
-  pub units : (m : ℕ) → (let r = reading_on which levels carried (moved at (text_with front new rest)) in
-      PassesRead k front old new rest c r from to looks carried_end m → (which ≡ of.Block → (IsLast (entries_in k (front ++ (old ++ rest))) from → ⊥) × (0 < m))
-      → units_of (log k (front ++ (new ++ rest))) ≡ spliced from to (entries_by c.start (notes_by k r m)) (units_of (log k (front ++ (old ++ rest)))))
+  pub units : (m : ℕ) → (let r = reading_on which levels carried (moved at (start_after edit)) in
+      PassesRead k edit c r from to looks carried_end m → (which ≡ of.Block → (IsLast (entries_in k (text_before edit)) from → ⊥) × (0 < m))
+      → units_of (log k (text_after edit)) ≡ spliced from to (entries_by c.start (notes_by k r m)) (units_of (log k (text_before edit))))
 
 -- ---- the laws
 
 -- The law of what is found of a candidate that is pieces of a text's own run, in texts that a machine word counts.
 abbrev pub RunTestLaw : Type 0
-RunTestLaw = (k : CharClasses) (front old new rest : List ℕ) (root : Tree) (c : Candidate) → bare root ≡ bare (tree k (front ++ (old ++ rest)))
-    → Among c (candidates k (front ++ (old ++ rest)) (width front) (width (front ++ old)) root) → c.is_block ≡ false → c.path ≡ []
-    → width (front ++ (old ++ rest)) < 2 ^ 64 - 1 → width (front ++ (new ++ rest)) < 2 ^ 64 - 1
-    → FoundRun k front old new rest c of.Text max_depth 0
+RunTestLaw = (k : CharClasses) (edit : TextReplacement) (root : Tree) (c : Candidate) → bare root ≡ bare (tree k (text_before edit))
+    → Among c (candidates k edit root) → c.is_block ≡ false → c.path ≡ []
+    → width (text_before edit) < 2 ^ 64 - 1 → width (text_after edit) < 2 ^ 64 - 1
+    → FoundRun k edit c of.Text max_depth 0
 
 -- What is found of a candidate that is pieces of a content block's run: its block begins at an entry, and its run at the next one. However the pieces pass, the block's entries are exchanged for those of the block by itself on the new text, too.
-pub record FoundInner (k : CharClasses) (front old new rest : List ℕ) (root : Tree) (c : Candidate) : Type 0 where
+pub record FoundInner (k : CharClasses) (edit : TextReplacement) (root : Tree) (c : Candidate) : Type 0 where
   pub opens : ℕ
-  pub is_opens : opening_of (start_at (take (length c.path - 1) c.path) 0 root) 0 0 (entries_in k (front ++ (old ++ rest))) ≡ Some opens
+  pub is_opens : opening_of (start_at (take (length c.path - 1) c.path) 0 root) 0 0 (entries_in k (text_before edit)) ≡ Some opens
   pub to : ℕ
   pub levels : ℕ
   pub mode : SyntaxMode
-  pub says : SaysBlock (entries_in k (front ++ (old ++ rest))) opens to levels block.Content mode
+  pub says : SaysBlock (entries_in k (text_before edit)) opens to levels block.Content mode
   pub some : 0 < levels
-  pub run : FoundRun k front old new rest c of.Block levels (suc opens)
+  pub run : FoundRun k edit c of.Block levels (suc opens)
   -- the block begins a given number of characters further on, in both texts
   pub at : ℕ
-  pub start : start_at (take (length c.path - 1) c.path) 0 root ≡ width (take at (front ++ (old ++ rest)))
-  pub start_now : position (moved at (text_with front new rest)) ≡ start_at (take (length c.path - 1) c.path) 0 root
-  pub units : (ts : List Tree) → Gives k front old new rest c ts
-      → units_of (log k (front ++ (new ++ rest))) ≡ spliced opens to (entries_alone k levels block.Content mode (moved at (text_with front new rest))) (units_of (log k (front ++ (old ++ rest))))
+  pub start : start_at (take (length c.path - 1) c.path) 0 root ≡ width (take at (text_before edit))
+  pub start_now : position (moved at (start_after edit)) ≡ start_at (take (length c.path - 1) c.path) 0 root
+  pub units : (ts : List Tree) → Gives k edit c ts
+      → units_of (log k (text_after edit)) ≡ spliced opens to (entries_alone k levels block.Content mode (moved at (start_after edit))) (units_of (log k (text_before edit)))
 
 -- The law of what is found of a candidate that is pieces of a content block's run, in texts that a machine word counts.
 abbrev pub InnerRunTestLaw : Type 0
-InnerRunTestLaw = (k : CharClasses) (front old new rest : List ℕ) (root : Tree) (c : Candidate) → bare root ≡ bare (tree k (front ++ (old ++ rest)))
-    → Among c (candidates k (front ++ (old ++ rest)) (width front) (width (front ++ old)) root) → c.is_block ≡ false → (c.path ≡ [] → ⊥)
-    → width (front ++ (old ++ rest)) < 2 ^ 64 - 1 → width (front ++ (new ++ rest)) < 2 ^ 64 - 1
-    → FoundInner k front old new rest root c
+InnerRunTestLaw = (k : CharClasses) (edit : TextReplacement) (root : Tree) (c : Candidate) → bare root ≡ bare (tree k (text_before edit))
+    → Among c (candidates k edit root) → c.is_block ≡ false → (c.path ≡ [] → ⊥)
+    → width (text_before edit) < 2 ^ 64 - 1 → width (text_after edit) < 2 ^ 64 - 1
+    → FoundInner k edit root c
 
 -- The law of a run's end: where a run that is read by itself ends no more pieces go on.
 abbrev pub OverLaw : Type 0
-OverLaw = (k : CharClasses) (r : Reading) (m j : ℕ) → IsOver k r.levels r.which r.carried r.place m → AllGo (read_by k r j) → j ≤ m
+OverLaw = (k : CharClasses) (r : Reading) (m j : ℕ) → IsOver k r.levels r.which r.carried r.place m → AllGo (pieces_by k r j) → j ≤ m

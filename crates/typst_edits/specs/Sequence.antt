@@ -1,5 +1,5 @@
--- The pieces of any run of markup, as Runs.antt has those of a text's.
-use Rattle.std.specs.Prelude.{ℕ, ◌+◌, Bool, true, List, [], ◌++◌, length}
+-- The pieces of a run of markup.
+use Rattle.std.specs.Prelude.{ℕ, ◌+◌, Bool, true, List, [], ◌∷◌, ◌++◌, length}
 use Rattle.typst_kinds.specs.declared.kind.SyntaxKind.{SyntaxKind}
 use Rattle.typst_lines.specs.Place.{Place, moved}
 use Rattle.typst_tree.specs.Tree.{Tree}
@@ -8,7 +8,12 @@ use Rattle.typst_language.specs.Steps.{flush_trivia}
 use Rattle.typst_language.specs.Meaning.{Outcome, Meaning, Level, plain, less, joined, repeated, run}
 use Rattle.typst_grammar.specs.Markup.{markup_turn}
 use Rattle.typst_grammar.specs.Pieces.{given}
-use Rattle.typst_edits.specs.Runs.{made, End, end_of, chain}
+pub use Rattle.typst_grammar.specs.Pieces.{made, AllGo, End, end_of, asks_of}
+
+-- turns, and what comes after them
+abbrev pub chain : {A B : Type 0} → List (Outcome (Bool × A)) → Outcome B → Outcome B
+chain [] q = q
+chain (o ∷ os) q = joined o (chain os q)
 
 -- where the pieces of a run of markup are read: how deep, where they stop, and the place and the point at the first of them
 pub record Sequence : Type 0 where

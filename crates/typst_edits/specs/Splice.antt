@@ -10,7 +10,8 @@ use Rattle.typst_language.specs.declared.reading.State.{State}
 use Rattle.typst_language.specs.Ask.{Ask, shift}
 use Rattle.typst_language.specs.Ask.Ask.{looked, marked}
 use Rattle.typst_language.specs.Log.{no_log, logged}
-use Rattle.typst_edits.specs.Edit.{text_with, AllEndBy, AllBeginIn}
+use Rattle.typst_edits.specs.Edit.{AllEndBy, AllBeginIn}
+use Rattle.typst_edits.specs.TextReplacement.{TextReplacement, text_before, text_after, start_before, start_after}
 
 -- what one note says, and where
 pub record Noting : Type 0 where
@@ -48,13 +49,13 @@ entries_from start (Some ns) = entries_by start ns
 -- THE LAW OF THE SPLICE: where what is asked of two texts up to a note is the same and lies before the stretch, and what is asked of them
 -- after another note is the same and lies after the stretch, the units of the new text are those of the old one with those between the notes exchanged.
 abbrev pub SpliceLaw : Type 0
-SpliceLaw = (levels : ℕ) (front old new rest : List ℕ) (past gap : ℕ) (first second third last : List Ask) (p q r : Noting)
-    → width (front ++ (old ++ rest)) < 2 ^ 64 - 1 → width (front ++ (new ++ rest)) < 2 ^ 64 - 1
-    → AllEndBy (length front) first → AllNotedBy (length front) first → p.at + p.gap ≤ length front
-    → q.at + q.gap ≡ ((length front + length old) + past) + gap → r.at + r.gap ≡ ((length front + length new) + past) + gap → AllBeginIn past rest last
-    → (let z = text_with front old rest in
-    let w = text_with front new rest in
-    let was = units_of (logged levels z no_log (first ++ noting p ∷ (second ++ noting q ∷ shift ((length front + length old) + past) last))) in
-    let now = units_of (logged levels w no_log (first ++ noting p ∷ (third ++ noting r ∷ shift ((length front + length new) + past) last))) in
+SpliceLaw = (levels : ℕ) (edit : TextReplacement) (past gap : ℕ) (first second third last : List Ask) (p q r : Noting)
+    → width (text_before edit) < 2 ^ 64 - 1 → width (text_after edit) < 2 ^ 64 - 1
+    → AllEndBy (length edit.front) first → AllNotedBy (length edit.front) first → p.at + p.gap ≤ length edit.front
+    → q.at + q.gap ≡ ((length edit.front + length edit.old) + past) + gap → r.at + r.gap ≡ ((length edit.front + length edit.new) + past) + gap → AllBeginIn past edit.rest last
+    → (let z = start_before edit in
+    let w = start_after edit in
+    let was = units_of (logged levels z no_log (first ++ noting p ∷ (second ++ noting q ∷ shift ((length edit.front + length edit.old) + past) last))) in
+    let now = units_of (logged levels w no_log (first ++ noting p ∷ (third ++ noting r ∷ shift ((length edit.front + length edit.new) + past) last))) in
     let part = entries_from (token_start w p) (logged levels w no_log (third ++ noting r ∷ [])).notes in
     now ≡ spliced (notes_in first) (suc (notes_in first + notes_in second)) part was)

@@ -37,7 +37,11 @@ abbrev pub lowered : ℕ → List Ask → List Ask
 lowered n = map (lower n)
 
 -- a block's place in a whole reading. In `@x[b] c` it says of the block `[b]` what is read of it,
--- and what the reading gives and asks before it, for `@x`, and after it, for ` c`
+-- and what the reading gives and asks before it, for `@x`, and after it, for ` c`. `around` puts the
+-- whole together of it and another block: with another `at` or `rest` looks would be counted from
+-- other places, and an edit would keep nodes that saw it; with another `hole` the new node would stand
+-- elsewhere; with another `back` or other `hints` errors before the block would go, or get hints.
+-- `blocks_of_texts` computes spots of short texts
 pub record Spot (A : Type 0) : Type 0 where
   -- the block: where it begins in the whole, in characters, how many levels fewer are left there,
   -- the state in which it begins, and what is read there

@@ -2,7 +2,7 @@
 
 ghost use Rattle.typst_lines.specs.Classes.{CharClasses};
 ghost use Rattle.typst_edits.specs.BareCandidates.{BareCandidatesLaw};
-ghost use Rattle.typst_edits.specs.AnswerExamples.{Answered, Decided};
+ghost use Rattle.typst_edits.specs.AnswerExamples.{Answered, RefusedAlone};
 ghost use Rattle.typst_edits.specs.BlockModes.{ModeLaw};
 ghost use Rattle.typst_edits.specs.BlockRuns.{InnerLaw};
 ghost use Rattle.typst_edits.specs.BlockSplice.{BlockSpliceLaw};
@@ -20,7 +20,7 @@ ghost use Rattle.typst_edits.specs.Conditions.{Conditions};
 ghost use Rattle.typst_edits.specs.EmptyRuns.{EmptyBlockLaw, EmptyTextLaw};
 ghost use Rattle.typst_edits.specs.Examples.{Blocks};
 ghost use Rattle.typst_edits.specs.RunExamples.{Runs};
-ghost use Rattle.typst_edits.specs.Heads.{HeadLaw, InnerMeetsLaw, MeetsLaw, NoneBackLaw, NoneAfterLaw};
+ghost use Rattle.typst_edits.specs.Heads.{HeadLaw, MeetsLaw, NoneBackLaw, NoneAfterLaw};
 ghost use Rattle.typst_edits.specs.InOrder.{InOrderLaw};
 ghost use Rattle.typst_edits.specs.InnerBytes.{InnerDecisionLaw};
 ghost use Rattle.typst_edits.specs.Joins.{InnerJointLaw, JointLaw};
@@ -29,8 +29,6 @@ ghost use Rattle.typst_edits.specs.JointBytes.{JointDecisionLaw};
 ghost use Rattle.typst_edits.specs.Laws.{BlockLaw, NamesLaw};
 ghost use Rattle.typst_edits.specs.Leading.{LeadingInnerLaw, LeadingLaw};
 ghost use Rattle.typst_edits.specs.InnerPiecesTest.{InnerEntriesLaw, InnerOnceLaw, InnerPartLaw, InnerTestLaw, InnerUnitsLaw};
-ghost use Rattle.typst_edits.specs.InnerPiecesLog.{InnerPiecesLogLaw};
-ghost use Rattle.typst_edits.specs.InnerSplice.{AroundSpliceLaw, InnerSpliceLaw};
 ghost use Rattle.typst_edits.specs.InnerSpliceExamples.{InnerSplices};
 ghost use Rattle.typst_edits.specs.InnerWorth.{InnerWorthLaw};
 ghost use Rattle.typst_edits.specs.Lost.{CompleteLaw};
@@ -54,7 +52,7 @@ ghost use Rattle.typst_edits.specs.RunNumbers.{InnerNumbersLaw, RunNumbersLaw};
 ghost use Rattle.typst_edits.specs.RunTrees.{RunTreeLaw};
 ghost use Rattle.typst_edits.specs.Runs.{RunLaw, StartLaw};
 ghost use Rattle.typst_edits.specs.Standing.{StandingLaw, UnnotedLaw};
-ghost use Rattle.typst_edits.specs.RunSplice.{RunSpliceLaw};
+ghost use Rattle.typst_edits.specs.RunSplice.{AroundSpliceLaw, RunSpliceLaw};
 ghost use Rattle.typst_edits.specs.RunTest.{InnerRunTestLaw, OverLaw, RunTestLaw};
 ghost use Rattle.typst_edits.specs.Served.{ServedLaw};
 ghost use Rattle.typst_edits.specs.Splice.{SpliceLaw};
@@ -139,7 +137,6 @@ pub fn head_law()
     ensures edit { NoneBackLaw }
     ensures behind { NoneAfterLaw }
     ensures meets { MeetsLaw }
-    ensures inner_meets { InnerMeetsLaw }
 {}
 
 /// Each block of a text has two notes in its log, where it begins and where it ends. The
@@ -219,7 +216,6 @@ pub fn splice_law()
     ensures units { SpliceLaw }
     ensures block { BlockSpliceLaw }
     ensures run { RunSpliceLaw }
-    ensures inner { InnerSpliceLaw }
     ensures around { AroundSpliceLaw }
 {}
 
@@ -249,9 +245,9 @@ pub fn empty_run_law()
     ensures block { EmptyBlockLaw }
 {}
 
-/// A tree has the candidates that any other tree has which is the same, spans aside: so a numbered tree has those
-/// of its text's tree. The path of each leads to an inner node, whose children from one place up to the other are
-/// the bytes that the candidate says; new nodes in their place are, spans aside, those exchanged in the text's tree.
+/// Trees that are the same, spans aside, have the same candidates: so a numbered tree has those of its text's tree. The
+/// path of each leads to an inner node, whose children from one place up to the other are the bytes that the candidate
+/// says; new nodes in their place are, spans aside, those exchanged in the text's tree.
 pub fn candidates_law()
     ensures spans { BareCandidatesLaw }
     ensures places { CandidatePlacesLaw }
@@ -327,14 +323,13 @@ pub fn resume_law()
     ensures pieces { ResumeLaw }
     ensures count { CountLaw }
     ensures log { PiecesLogLaw }
-    ensures inner_log { InnerPiecesLogLaw }
 {}
 
 /// An edit of a short text: its candidates, the first that passes, and the answer; and edits at which one
 /// condition of the test alone refuses a candidate.
 pub fn answers_of_texts()
     ensures answer { (beyond : CharClasses) → Answered beyond }
-    ensures conditions { (beyond : CharClasses) → Decided beyond }
+    ensures conditions { (beyond : CharClasses) → RefusedAlone beyond }
 {}
 
 /// Where pieces of a run pass the test and begin and end where a candidate does that begins well, the tree of the new
@@ -352,9 +347,9 @@ pub fn piece_candidates_law()
 {}
 
 /// Each candidate of an edit that isn't a block is pieces of a run: it begins and ends where they do, past the stretch,
-/// and the first of them takes back no errors. Only in a run without an expression there is none. One among the
-/// children at the top of a text's tree is pieces of the text's own run. Any other is pieces of a content block's run,
-/// which stands around the stretch and isn't the deepest.
+/// and the first of them takes back no errors. Only a run without an expression has none. One among the children at the
+/// top of a text's tree is pieces of the text's own run. Any other is pieces of a content block's run, which stands
+/// around the stretch and isn't the deepest.
 pub fn candidate_runs_law()
     ensures root { RootPiecesOfLaw }
     ensures inner { InnerPiecesOfLaw }
@@ -373,10 +368,10 @@ pub fn inner_worth_law()
     ensures { InnerWorthLaw }
 {}
 
-/// Each candidate of an edit that passes its test is worth its new nodes: the new text's tree is the old one with
-/// them in its place, and the new text's units are the old ones with a part of them exchanged. So it is of blocks,
-/// of pieces of a text's own run and of those of content blocks. Proofs of code use `answer_law` for the tree and
-/// the laws of tests for the units.
+/// Each candidate of an edit that passes its test is worth its new nodes: the new text's tree is the old one with them
+/// in its place, and the new text's units are the old ones with a part of them exchanged. It covers blocks, pieces of a
+/// text's own run and those of content blocks. Proofs of code use `answer_law` for the tree and the laws of tests for
+/// the units.
 pub fn candidate_law()
     ensures { CandidateLaw }
 {}

@@ -1,4 +1,4 @@
-//! What an edit may keep of a tree, as laws over the definitions. It has no code of its own, and passes on what the
+//! What an edit may keep of a tree, and why: laws (docs/EDITS.md). It has no code of its own, and passes on what the
 //! crates above name of `typst_grammar` and `typst_language`.
 #![tactic(auto)]
 

@@ -1,8 +1,7 @@
 -- From candidates that are asked one after the other to the answer of an edit.
-use Rattle.typst_parser.proofs.Cited.{◌≡◌, ℕ, zero, suc, ◌≤◌, ◌<◌, ◌^◌, Bool, IsTrue, List, [], ◌∷◌, ◌++◌, length, take, drop, Option, Some, None, Ok, refl, ap, sym, subst, ◌∙◌, arith, same_Some, slice_get, IfOk, IfSome, Result, Range, CharClasses, bytes-length, width, Tree, bare, text_of, At, Reaches, kids_of, replaced_at, Candidate, Units, end_of, spliced, log, tree, leaves, IsAnswer, Refused, part, entries_in, StandsIn, Among, Every, listed, candidate-places-law, in-order, tree-inner, among, Fails, IsPart, Speaks, TextReplacement, Holds, Makes, candidates, text_before, HasTaken, NonePassesOf, Takes, TakesFirst, Asked, ReparsedPart, Reread, Replacement, joined_bare, answer-tree-law, opens-apart-law}
+use Rattle.typst_parser.proofs.Cited.{◌≡◌, ℕ, zero, suc, ◌≤◌, ◌<◌, ◌^◌, Bool, IsTrue, List, [], ◌∷◌, ◌++◌, length, take, drop, Option, Some, None, Ok, refl, ap, sym, subst, ◌∙◌, arith, same_Some, slice_get, IfOk, IfSome, Result, Range, CharClasses, bytes-length, width, Tree, bare, text_of, At, Reaches, kids_of, replaced_at, Candidate, Units, end_of, spliced, log, tree, leaves, IsAnswer, Refused, part, entries_in, StandsIn, Among, Every, listed, candidate-places-law, in-order, tree-inner, among, Fails, IsPart, Speaks, TextReplacement, Holds, Makes, candidates, text_before, HasTaken, NonePassesOf, Takes, TakesFirst, Asked, ReparsedPart, Reread, Replacement, joined_bare, answer-tree-law, unique-law}
 use Rattle.std.specs.declared.alloc.AllocError.{AllocError}
 use Rattle.typst_candidates.specs.Candidates as candidate
-use Rattle.typst_edits.proofs.Unique.{unique-law}
 use Rattle.typst_parser.proofs.Numbers.{entries-end}
 use Rattle.typst_parser.proofs.Places.{bytes-width}
 
@@ -83,12 +82,12 @@ module _ (k : CharClasses) (c : TextReplacement) (root : Tree) (units : Units) (
   -- ---- one candidate
 
   module _ (d : Candidate) (chosen : Among d (candidates k c root)) where
-    pub fails-refused : Fails k c d → Refused k c.front c.old c.new c.rest root d
+    pub fails-refused : Fails k c d → Refused k c root d
     fails-refused never = λ ts g. absurd (never ts g)
 
-    pub full-refused : (p : ReparsedPart) → IsPart k c root d p → replaced_at d.path p.first_child d.to p.nodes.items root ≡ None → Refused k c.front c.old c.new c.rest root d
+    pub full-refused : (p : ReparsedPart) → IsPart k c root d p → replaced_at d.path p.first_child d.to p.nodes.items root ≡ None → Refused k c root d
     full-refused p is none = λ ts g.
-        ap (λ us. replaced_at d.path d.from d.to us root) (unique-law opens-apart-law k c.front c.old c.new c.rest root d ts is.nodes h.tree_is chosen g is.gives) ∙ is.puts ∙ none
+        ap (λ us. replaced_at d.path d.from d.to us root) (unique-law k c root d ts is.nodes h.tree_is chosen g is.gives) ∙ is.puts ∙ none
 
     pub part-taken : (p : ReparsedPart) (now : Tree) (units_now : Units) → IsPart k c root d p → replaced_at d.path p.first_child d.to p.nodes.items root ≡ Some now → units_now ≡ spliced p.from_entry p.to_entry p.entries.units.entries units → HasTaken k c d root now units_now p.end
     part-taken p now units_now is put spliced_is = record {
@@ -102,13 +101,13 @@ module _ (k : CharClasses) (c : TextReplacement) (root : Tree) (units : Units) (
   -- ---- the answer
 
   -- the candidate of a number, where all before it are refused
-  pub takes-it : (cs : List Candidate) → cs ≡ candidates k c root → (i : ℕ) (d : Candidate) (now : Tree) (units_now : Units) (end : ℕ) → slice_get cs i ≡ Some d → Every (Refused k c.front c.old c.new c.rest root) (take i cs)
+  pub takes-it : (cs : List Candidate) → cs ≡ candidates k c root → (i : ℕ) (d : Candidate) (now : Tree) (units_now : Units) (end : ℕ) → slice_get cs i ≡ Some d → Every (Refused k c root) (take i cs)
       → HasTaken k c d root now units_now end → Takes k c root now units_now (record { start = d.start; end = end })
   takes-it cs same i d now units_now end at refused taken =
       let split = sym same ∙ split-at cs i d at in
       let range : Range ℕ = record { start = d.start; end = end } in
-      let answer : IsAnswer k c.front c.old c.new c.rest (candidates k c root) root now range = part (take i cs) d (drop (suc i) cs) taken.nodes split refused taken.gives taken.put refl taken.shifted in
-      record { answer = answer; tree_is = answer-tree-law opens-apart-law k c.front c.old c.new c.rest root now range h.tree_is answer; units_are = taken.units_are }
+      let answer : IsAnswer k c (candidates k c root) root now range = part (take i cs) d (drop (suc i) cs) taken.nodes split refused taken.gives taken.put refl taken.shifted in
+      record { answer = answer; tree_is = answer-tree-law k c root now range h.tree_is answer; units_are = taken.units_are }
 
 -- ---- candidates of a tree that stayed
 

@@ -1,26 +1,26 @@
 -- The steps of reading a block again.
-use Rattle.typst_parser.proofs.Cited.{◌≡◌, ℕ, suc, ◌+◌, ◌-◌, ◌≤◌, ◌<◌, ◌^◌, true, drop, Option, Some, None, ap, sym, subst, ◌∙◌, arith, same_Some, IsCharBoundary, chars, CharClasses, moved, place_at, position, width, Tree, Candidate, closing_of, Units, AllFit, opening_of, ReadPart, start_of, IsBlock, block_alone, FoundBlock, SaysBlock, Among, text_with, Fails, IsPart, Speaks, TextReplacement, candidates, text_after, IsReadBlock, entries_of, Asked, ReparsedPart, SyntaxMode, Block}
+use Rattle.typst_parser.proofs.Cited.{◌≡◌, ℕ, suc, ◌+◌, ◌-◌, ◌≤◌, ◌<◌, ◌^◌, true, drop, Option, Some, None, ap, sym, subst, ◌∙◌, arith, same_Some, IsCharBoundary, chars, CharClasses, moved, place_at, position, width, Tree, Candidate, closing_of, Units, AllFit, opening_of, ReadPart, start_of, IsBlock, block_alone, FoundBlock, SaysBlock, Among, start_after, Fails, IsPart, Speaks, TextReplacement, candidates, text_after, IsReadBlock, entries_of, Asked, ReparsedPart, SyntaxMode, Block}
 use Rattle.typst_parser.proofs.Blocks.{block-closes, block-end-fails, block-found, block-looks-fail, block-part, block-says, block-starts}
 use Rattle.typst_parser.proofs.Answering.{candidate-order, entries-are}
 use Rattle.typst_parser.proofs.Places.{part-fits, place-boundary, place-is, position-within, sides-of}
 
 -- a place of the new text, by its byte
-module _ {C : Type 0} (k : CharClasses) (ch : TextReplacement) (q : Asked C) (root : Tree) (units : Units) (ready : Speaks k ch q root units) (n b : ℕ) (e : position (moved n (text_with ch.front ch.new ch.rest)) ≡ b) where
+module _ {C : Type 0} (k : CharClasses) (ch : TextReplacement) (q : Asked C) (root : Tree) (units : Units) (ready : Speaks k ch q root units) (n b : ℕ) (e : position (moved n (start_after ch)) ≡ b) where
   at-byte : position (moved n (start_of (chars q.new.now))) ≡ b
   at-byte = ap (λ cs. position (moved n (start_of cs))) ready.makes.is ∙ e
 
   pub now-boundary : IsCharBoundary q.new.now b
   now-boundary = place-boundary q.new.now ready.text n b at-byte
 
-  pub now-place : place_at q.new.now b ≡ moved n (text_with ch.front ch.new ch.rest)
+  pub now-place : place_at q.new.now b ≡ moved n (start_after ch)
   now-place = place-is q.new.now ready.text n b at-byte ∙ ap (λ cs. moved n (start_of cs)) ready.makes.is
 
-  pub now-few : width (moved n (text_with ch.front ch.new ch.rest)).before + width (moved n (text_with ch.front ch.new ch.rest)).ahead < 2 ^ 64 - 1
+  pub now-few : width (moved n (start_after ch)).before + width (moved n (start_after ch)).ahead < 2 ^ 64 - 1
   now-few = let s = sides-of (text_after ch) n in let f = ready.makes.fits_now in omega (arith, s, f)
 
 module _ {C : Type 0} (k : CharClasses) (ch : TextReplacement) (q : Asked C) (root : Tree) (units : Units) (ready : Speaks k ch q root units) (d : Candidate) (chosen : Among d (candidates k ch root)) (block : d.is_block ≡ true)
     (from : ℕ) (opens : Some from ≡ opening_of d.start 0 0 units.entries) where
-  f : FoundBlock k ch.front ch.old ch.new ch.rest d from
+  f : FoundBlock k ch d from
   f = block-found k ch root units d ready.holds q.new.now q.edit ready.makes chosen block from (sym opens)
 
   says : SaysBlock units.entries from f.to f.levels f.block f.mode
@@ -32,7 +32,7 @@ module _ {C : Type 0} (k : CharClasses) (ch : TextReplacement) (q : Asked C) (ro
   pub start-boundary : IsCharBoundary q.new.now d.start
   start-boundary = now-boundary k ch q root units ready f.at d.start f.start_now
 
-  place : place_at q.new.now d.start ≡ moved f.at (text_with ch.front ch.new ch.rest)
+  place : place_at q.new.now d.start ≡ moved f.at (start_after ch)
   place = now-place k ch q root units ready f.at d.start f.start_now
 
   module _ (number : ℕ) (number_is : number ≡ suc from) where
@@ -60,18 +60,18 @@ module _ {C : Type 0} (k : CharClasses) (ch : TextReplacement) (q : Asked C) (ro
           there : IsBlock k f.levels f.block f.mode (place_at q.new.now d.start) p
           there = subst (IsReadBlock k f.levels f.block f.mode (place_at q.new.now d.start)) some is-read
 
-          here : IsBlock k f.levels f.block f.mode (moved f.at (text_with ch.front ch.new ch.rest)) p
+          here : IsBlock k f.levels f.block f.mode (moved f.at (start_after ch)) p
           here = subst (λ z. IsBlock k f.levels f.block f.mode z p) place there
 
           pub read-fits : AllFit p.notes.items
           read-fits =
-              let z = moved f.at (text_with ch.front ch.new ch.rest) in
+              let z = moved f.at (start_after ch) in
               let b = block_alone k f.levels f.block f.mode z in
               part-fits f.levels z b.nodes b.taken b.asks p (now-few k ch q root units ready f.at d.start f.start_now) here
 
           pub read-few : p.end < 2 ^ 64
           read-few =
-              let z = moved f.at (text_with ch.front ch.new ch.rest) in
+              let z = moved f.at (start_after ch) in
               let e = here.end in
               grind (arith, position-within, now-few)
 

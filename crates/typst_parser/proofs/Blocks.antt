@@ -1,6 +1,5 @@
 -- Blocks that are read by themselves.
-use Rattle.typst_parser.proofs.Cited.{◌≡◌, ℕ, suc, ◌+◌, ◌-◌, ◌≤◌, ◌<◌, true, List, length, drop, Some, None, ap, sym, subst, ◌∙◌, arith, slice_get_within, CharClasses, Place, moved, position, width, Tree, replaced_at, Entry, Candidate, closing_of, Units, spliced, units_of, opening_of, ReadPart, log, IsBlock, FoundBlock, PassesAlone, SaysBlock, entries_alone, entries_in, front_in, rear_in, Among, text_with, Gives, Fails, IsPart, TextReplacement, Holds, Makes, candidates, text_before, entries_of, ReparsedPart, Replacement, in-order-law, SyntaxMode, Block}
-use Rattle.typst_edits.proofs.BlockTest.{block-test-law}
+use Rattle.typst_parser.proofs.Cited.{◌≡◌, ℕ, suc, ◌+◌, ◌-◌, ◌≤◌, ◌<◌, true, List, length, drop, Some, None, ap, sym, subst, ◌∙◌, arith, slice_get_within, CharClasses, Place, moved, position, width, Tree, replaced_at, Entry, Candidate, closing_of, Units, spliced, units_of, opening_of, ReadPart, log, IsBlock, FoundBlock, PassesAlone, SaysBlock, entries_alone, entries_in, front_in, rear_in, Among, start_after, Gives, Fails, IsPart, TextReplacement, Holds, Makes, candidates, text_before, entries_of, ReparsedPart, Replacement, SyntaxMode, Block, block-test-law}
 use Rattle.typst_parser.proofs.Numbers.{After, closing-after}
 use Rattle.typst_parser.proofs.Runs.{shift-in, shift-out, width-take}
 
@@ -24,9 +23,9 @@ says-closes es first to levels b read_as some s = grind arith
 
 -- ---- a candidate
 
-module _ (k : CharClasses) (c : TextReplacement) (d : Candidate) (from : ℕ) (f : FoundBlock k c.front c.old c.new c.rest d from) where
+module _ (k : CharClasses) (c : TextReplacement) (d : Candidate) (from : ℕ) (f : FoundBlock k c d from) where
   abbrev pub block_place : Place
-  block_place = moved f.at (text_with c.front c.new c.rest)
+  block_place = moved f.at (start_after c)
 
   pub block-starts : d.start ≤ width (text_before c)
   block-starts = let s = f.start in let w = width-take f.at (text_before c) in omega (arith, s, w)
@@ -38,7 +37,7 @@ module _ (k : CharClasses) (c : TextReplacement) (d : Candidate) (from : ℕ) (f
     pub block-closes : (number : ℕ) → number ≡ suc from → closing_of 0 number (drop number es) ≡ Some f.to
     block-closes number e = subst (λ n. closing_of 0 n (drop n es) ≡ Some f.to) (sym e) block-says.closes
 
-  module _ (front rear : ℕ) (front_is : front ≡ front_in k c.front c.old c.rest) (rear_is : rear ≡ rear_in k c.front c.old c.rest) (to : ℕ) (to_is : to ≡ f.to) where
+  module _ (front rear : ℕ) (front_is : front ≡ front_in k c) (rear_is : rear ≡ rear_in k c) (to : ℕ) (to_is : to ≡ f.to) where
     pub block-looks-fail : ((from < front) × (rear ≤ to) → ⊥) → Fails k c d
     block-looks-fail never = λ ts g. (let p = ((f.gives ts).0 g).0 in let a = p.before in let b = p.behind in never (omega (arith, a, front_is), omega (arith, b, rear_is, to_is)))
 
@@ -55,7 +54,7 @@ module _ (k : CharClasses) (c : TextReplacement) (d : Candidate) (from : ℕ) (f
       block-part before after shifted part nodes end from_is at entries root first some =
           let t = read-here.end in
           let s = shift-in c new e p.end d.end makes shifted in
-          let passes : PassesAlone k c.front c.old c.new c.rest d from f.to f.levels f.block f.mode f.at =
+          let passes : PassesAlone k c d from f.to f.levels f.block f.mode f.at =
           record { before = omega (arith, before, front_is); behind = omega (arith, after, rear_is, to_is); shifted = ap (λ n. n + width c.old) (sym t) ∙ s } in
           let one = f.alone passes in
           let gives = (f.gives p.nodes.items).1 (passes, read-here.nodes_are ∙ one) in
@@ -63,7 +62,7 @@ module _ (k : CharClasses) (c : TextReplacement) (d : Candidate) (from : ℕ) (f
           let b = says-after (entries_in k (text_before c)) from f.to f.levels f.block f.mode f.says in
           record {
             nodes = part.nodes.items;
-            gives = subst (λ v. Gives k c.front c.old c.new c.rest d v.items) (sym nodes) gives;
+            gives = subst (λ v. Gives k c d v.items) (sym nodes) gives;
             puts = ap (λ n. replaced_at d.path n d.to part.nodes.items root) (sym first);
             first = omega (arith, first, some);
             end = omega (arith, s, end);
@@ -80,12 +79,12 @@ module _ (k : CharClasses) (c : TextReplacement) (root : Tree) (units : Units) (
   same-entries : units.entries ≡ entries_in k (text_before c)
   same-entries = ap (λ (u : Units). u.entries) h.units_are
 
-  found : (opening_of d.start 0 0 (entries_in k (text_before c)) ≡ None → Fails k c d) × ((from : ℕ) → opening_of d.start 0 0 (entries_in k (text_before c)) ≡ Some from → FoundBlock k c.front c.old c.new c.rest d from)
-  found = block-test-law in-order-law k c.front c.old c.new c.rest root d h.tree_is chosen block m.fits m.fits_now
+  found : (opening_of d.start 0 0 (entries_in k (text_before c)) ≡ None → Fails k c d) × ((from : ℕ) → opening_of d.start 0 0 (entries_in k (text_before c)) ≡ Some from → FoundBlock k c d from)
+  found = block-test-law k c root d h.tree_is chosen block m.fits m.fits_now
 
   -- where no entry begins a block there, the candidate fails
   pub unopened : opening_of d.start 0 0 units.entries ≡ None → Fails k c d
   unopened none = found.0 (ap (opening_of d.start 0 0) (sym same-entries) ∙ none)
 
-  pub block-found : (from : ℕ) → opening_of d.start 0 0 units.entries ≡ Some from → FoundBlock k c.front c.old c.new c.rest d from
+  pub block-found : (from : ℕ) → opening_of d.start 0 0 units.entries ≡ Some from → FoundBlock k c d from
   block-found from opens = found.1 from (ap (opening_of d.start 0 0) (sym same-entries) ∙ opens)

@@ -18,20 +18,13 @@ pub use Rattle.typst_candidates.specs.Entries.{Units, end_of, entries_by, front_
 pub use Rattle.typst_candidates.specs.Nested.{Written}
 pub use Rattle.typst_candidates.specs.Records.{AllFit, IsRising, Kept, is_opening, opening_of}
 pub use Rattle.typst_candidates.specs.declared.entry.Entry.{Entry}
-pub use Rattle.typst_edits.proofs.AnswerTree.{answer-tree-law, chosen-of}
-pub use Rattle.typst_edits.proofs.CandidatePlaces.{begins-at, candidate-places-law}
-pub use Rattle.typst_edits.proofs.CandidateWorth.{in-order, tree-inner}
-pub use Rattle.typst_edits.proofs.Edit.{among, onto}
-pub use Rattle.typst_edits.proofs.InOrder.{in-order-law}
-pub use Rattle.typst_edits.proofs.OpensApart.{opens-apart-law}
-pub use Rattle.typst_edits.proofs.Whole.{leaves}
-pub use Rattle.typst_edits.proofs.Widths.{width-append, width-moved, width-none, width-onto}
+pub use Rattle.typst_edits.proofs.ForParser.{among, answer-tree-law, begins-at, block-test-law, candidate-places-law, chosen-of, in-order, in-order-law, inner-run-test-law, leaves, nested-law, onto, over-law, part-fits-law, rising-law, run-test-law, served-law, tree-inner, tree-is, unique-law, width-append, width-moved, width-none, width-onto}
 pub use Rattle.typst_edits.specs.Answer.{IsAnswer, Refused}
 pub use Rattle.typst_edits.specs.Answer.IsAnswer.{part, whole}
 pub use Rattle.typst_edits.specs.Block.{Block}
 pub use Rattle.typst_edits.specs.BlockTest.{FoundBlock, PassesAlone, SaysBlock, entries_alone, entries_in, front_in, rear_in}
 pub use Rattle.typst_edits.specs.CandidatePlaces.{StandsIn}
-pub use Rattle.typst_edits.specs.Edit.{Among, text_with}
+pub use Rattle.typst_edits.specs.Edit.{Among}
 pub use Rattle.typst_edits.specs.Every.{Every}
 pub use Rattle.typst_edits.specs.Frame.{Gives}
 pub use Rattle.typst_edits.specs.Grammar.{log, start_of, tree}
@@ -42,8 +35,9 @@ pub use Rattle.typst_edits.specs.PieceNotes.{listed}
 pub use Rattle.typst_edits.specs.Pieces.{AllGo, end_on, run_level, stops_of}
 pub use Rattle.typst_edits.specs.ReadPart.{ReadPart}
 pub use Rattle.typst_edits.specs.RunKind.{RunKind}
-pub use Rattle.typst_edits.specs.RunTest.{BeginsAt, Ends, FoundInner, FoundRun, InnerRunTestLaw, IsLast, LooksFrom, Reading, RunTestLaw, SaysPiece, byte_after, nodes_by, notes_by, read_by, reading_on}
-pub use Rattle.typst_edits.specs.Served.{MeetsOn, PassesOn, RunOf, Served, ServedLaw, reading_of}
+pub use Rattle.typst_edits.specs.RunTest.{BeginsAt, Ends, FoundInner, FoundRun, IsLast, LooksFrom, Reading, SaysPiece, byte_after, nodes_by, notes_by, pieces_by, reading_on}
+pub use Rattle.typst_edits.specs.Served.{MeetsOn, PassesOn, RunOf, Served, reading_of}
+pub use Rattle.typst_edits.specs.TextReplacement.{start_after, start_before}
 pub use Rattle.typst_kinds.specs.Head.{Head, spanned}
 pub use Rattle.typst_kinds.specs.Span.{Bytes, number_of}
 pub use Rattle.typst_kinds.specs.declared.mode.SyntaxMode.{SyntaxMode}

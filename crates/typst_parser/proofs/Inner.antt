@@ -1,11 +1,11 @@
 -- Pieces of a content block's run.
-use Rattle.typst_parser.proofs.Cited.{◌≡◌, ℕ, ◌+◌, ◌-◌, ◌≤◌, ◌<◌, List, length, ap, sym, subst, ◌∙◌, arith, CharClasses, Place, moved, position, width, Tree, replaced_at, Entry, Candidate, spliced, units_of, ReadPart, log, IsBlock, SaysBlock, entries_in, text_with, Gives, FoundInner, FoundRun, IsPart, TextReplacement, text_before, IsRunOf, IsWithBlock, ReparsedPart, Run, Vec}
+use Rattle.typst_parser.proofs.Cited.{◌≡◌, ℕ, ◌+◌, ◌-◌, ◌≤◌, ◌<◌, List, length, ap, sym, subst, ◌∙◌, arith, CharClasses, Place, moved, position, width, Tree, replaced_at, Entry, Candidate, spliced, units_of, ReadPart, log, IsBlock, SaysBlock, entries_in, start_after, Gives, FoundInner, FoundRun, IsPart, TextReplacement, text_before, IsRunOf, IsWithBlock, ReparsedPart, Run, Vec}
 use Rattle.typst_edits.specs.Block.TheVariants as block
 use Rattle.typst_parser.proofs.Blocks.{alone-entries, says-after, says-within}
 
-module _ (k : CharClasses) (c : TextReplacement) (root : Tree) (d : Candidate) (f : FoundInner k c.front c.old c.new c.rest root d) (run : Run) (is : IsRunOf k c root d f run) where
+module _ (k : CharClasses) (c : TextReplacement) (root : Tree) (d : Candidate) (f : FoundInner k c root d) (run : Run) (is : IsRunOf k c root d f run) where
   -- what is found of its run
-  pub run-found : FoundRun k c.front c.old c.new c.rest d run.kind run.levels run.first_entry
+  pub run-found : FoundRun k c d run.kind run.levels run.first_entry
   run-found = grind arith
 
   pub run-some : 0 < run.levels
@@ -13,7 +13,7 @@ module _ (k : CharClasses) (c : TextReplacement) (root : Tree) (d : Candidate) (
 
   -- where its block begins
   abbrev pub inner_place : Place
-  inner_place = moved f.at (text_with c.front c.new c.rest)
+  inner_place = moved f.at (start_after c)
 
   pub inner-here : position inner_place ≡ run.at
   inner-here = f.start_now ∙ sym is.at
@@ -28,7 +28,7 @@ module _ (k : CharClasses) (c : TextReplacement) (root : Tree) (d : Candidate) (
   inner-first es e = let w = says-within (entries_in k (text_before c)) f.opens f.to f.levels block.Content f.mode f.says in grind arith
 
   -- its nodes with the whole block's entries take its place
-  pub with-block-part : (p : ReadPart) (part : ReparsedPart) (first : ℕ) (ts : List Tree) → Gives k c.front c.old c.new c.rest d ts → replaced_at d.path d.from d.to ts root ≡ replaced_at d.path first d.to p.nodes.items root → first ≤ d.to
+  pub with-block-part : (p : ReadPart) (part : ReparsedPart) (first : ℕ) (ts : List Tree) → Gives k c d ts → replaced_at d.path d.from d.to ts root ≡ replaced_at d.path first d.to p.nodes.items root → first ≤ d.to
       → p.end + width c.old ≡ d.end + width c.new → (z : Place) → z ≡ inner_place
       → IsWithBlock k z run.at f.levels f.mode (run.first_entry - 1) f.to first p part → IsPart k c root d part
   with-block-part p part first ts gives puts order end z place w =

@@ -17,9 +17,8 @@ pub mod Answered
 --   read: a run                  Paths: where its block begins; ReadSteps: its entry
 --   read: pieces                 PieceReading: up to a byte; Serving: from candidate to candidate; Runs, RunSteps: of any run; Inner: of a content block
 --   reparse                      Answering, Turns: the candidates one after the other; takes-it and part-taken of Answering: tree and units after the one that is taken; KeptBoundaries: the place from which the next edit looks
---   all of these                 Laws: what `typst_edits` says of runs; Places: characters and bytes
+--   all of these                 Places: characters and bytes
 -- For `typst_document`: RootEdits: an edit's answer as an edit of the root's children.
-mod Laws
 mod Places
 mod Paths
 mod Numbers

@@ -1,9 +1,7 @@
 -- Numbers of entries.
-use Rattle.typst_parser.proofs.Cited.{◌≡◌, ℕ, suc, ◌+◌, ◌-◌, ◌≤◌, ◌<◌, ◌==◌, ◌&&◌, ◌^◌, max, Bool, true, false, if◌then◌else◌, List, [], ◌∷◌, length, length-drop, take, drop, Option, Some, None, refl, ap, ◌∙◌, arith, same_Some, CharClasses, width, Log, Entry, closing_of, inside_after, leads, piece_of, token_at, end_of, entries_by, is_after, last_start, rear_of, units_of, AllFit, IsRising, is_opening, opening_of, log, entries_in, listed, BeginsAt, in-order-law, Note, Written}
+use Rattle.typst_parser.proofs.Cited.{◌≡◌, ℕ, suc, ◌+◌, ◌-◌, ◌≤◌, ◌<◌, ◌==◌, ◌&&◌, ◌^◌, max, Bool, true, false, if◌then◌else◌, List, [], ◌∷◌, length, length-drop, take, drop, Option, Some, None, refl, ap, ◌∙◌, arith, same_Some, CharClasses, width, Log, Entry, closing_of, inside_after, leads, piece_of, token_at, end_of, entries_by, is_after, last_start, rear_of, units_of, AllFit, IsRising, is_opening, opening_of, log, entries_in, listed, BeginsAt, in-order-law, Note, Written, nested-law, rising-law}
 use Rattle.typst_candidates.proofs.Nested.{token-of}
 use Rattle.typst_edits.specs.Rising.{Rising}
-use Rattle.typst_edits.proofs.Nested.{nested-law}
-use Rattle.typst_edits.proofs.Rising.{rising-law}
 
 -- ---- where they stand
 

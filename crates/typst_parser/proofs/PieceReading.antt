@@ -1,5 +1,5 @@
 -- Pieces that are read one after the other up to a byte.
-use Rattle.typst_parser.proofs.Cited.{◌≡◌, inl, inr, ℕ, ◌+◌, ◌<◌, Bool, true, List, refl, ap, sym, subst, ◌∙◌, arith, CharClasses, Entry, HasRead, Reading, byte_after, read_by, MeetsOn, Fit, Grows, HasReadSome, HasReadTo, AllGo}
+use Rattle.typst_parser.proofs.Cited.{◌≡◌, inl, inr, ℕ, ◌+◌, ◌<◌, Bool, true, List, refl, ap, sym, subst, ◌∙◌, arith, CharClasses, Entry, HasRead, Reading, byte_after, pieces_by, MeetsOn, Fit, Grows, HasReadSome, HasReadTo, AllGo}
 use Rattle.std.proofs.lemmas.Bool.{cases_lt}
 use Rattle.typst_edits.specs.PieceReader.{PieceReader}
 use Rattle.typst_parser.proofs.Places.{moved-on}
@@ -27,11 +27,11 @@ module _ (k : CharClasses) (r : Reading) where
     fewer : (m : ℕ) → byte_after k r m ≡ target → m < h.has.count → ⊥
     fewer m e l = let b = h.has.before m l in omega (arith, b, e)
 
-    more : (m : ℕ) → AllGo (read_by k r m) → byte_after k r m ≡ target → h.has.count < m → ⊥
+    more : (m : ℕ) → AllGo (pieces_by k r m) → byte_after k r m ≡ target → h.has.count < m → ⊥
     more m go e l = grind arith
 
     -- only so many may end at the byte
-    only : (m : ℕ) → AllGo (read_by k r m) → byte_after k r m ≡ target → m ≡ h.has.count
+    only : (m : ℕ) → AllGo (pieces_by k r m) → byte_after k r m ≡ target → m ≡ h.has.count
     only m go e = let a = fewer m e in let b = more m go e in omega (arith, a, b)
 
     module _ (es : List Entry) (old new end to : ℕ) (led : Type 0) (y : Bool × ℕ) (shift : target + old ≡ end + new) where

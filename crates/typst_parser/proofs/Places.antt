@@ -1,8 +1,7 @@
 -- Places of a text in characters and in bytes.
-use Rattle.typst_parser.proofs.Cited.{◌≡◌, ℕ, zero, suc, ◌+◌, ◌≤◌, ◌<◌, ◌^◌, ◌-◌, List, [], ◌∷◌, ◌++◌, length, take, drop, append_assoc, append-nil, reverse, refl, ap, sym, ◌∙◌, arith, chars, IsUtf8, IsCharBoundary, reverse-append, Place, moved, moved_from, place_at, bytes-text, chars-split, front-ahead, front-boundary, front-chars, position, width, Tree, AllFit, start_of, ReadPart, Log, onto, width-append, width-moved, width-none, width-onto, bytes}
+use Rattle.typst_parser.proofs.Cited.{◌≡◌, ℕ, zero, suc, ◌+◌, ◌≤◌, ◌<◌, ◌^◌, ◌-◌, List, [], ◌∷◌, ◌++◌, length, take, drop, append_assoc, append-nil, reverse, refl, ap, sym, ◌∙◌, arith, chars, IsUtf8, IsCharBoundary, reverse-append, Place, moved, moved_from, place_at, bytes-text, chars-split, front-ahead, front-boundary, front-chars, position, width, Tree, AllFit, start_of, ReadPart, Log, onto, width-append, width-moved, width-none, width-onto, bytes, part-fits-law}
 use Rattle.typst_edits.specs.Ask.{Ask}
 use Rattle.typst_edits.specs.Part.{IsPart}
-use Rattle.typst_edits.proofs.BlockPart.{part-fits-law}
 
 pub bytes-width : (cs : List ℕ) → width cs ≡ bytes cs
 unfolding width

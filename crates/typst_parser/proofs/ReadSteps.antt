@@ -1,11 +1,10 @@
 -- The run that a candidate is pieces of.
-use Rattle.typst_parser.proofs.Cited.{◌≡◌, ℕ, zero, suc, ◌-◌, ◌<◌, ◌^◌, false, List, [], ◌∷◌, length, take, Option, Some, None, refl, ap, sym, subst, ◌∙◌, arith, same_Some, slice_get, CharClasses, Tree, text_of, AtPath, start_at, At, Reaches, kids_of, Entry, opening_of, entries_in, Among, FoundInner, RunOf, IsReady, at_path, TextReplacement, candidates, text_before, Reads, ReadsInner, ServesFor, Run, Serving, Attempt}
+use Rattle.typst_parser.proofs.Cited.{◌≡◌, ℕ, zero, suc, ◌-◌, ◌<◌, ◌^◌, false, List, [], ◌∷◌, length, take, Option, Some, None, refl, ap, sym, subst, ◌∙◌, arith, same_Some, slice_get, CharClasses, Tree, text_of, AtPath, start_at, At, Reaches, kids_of, Entry, opening_of, entries_in, Among, FoundInner, RunOf, IsReady, at_path, TextReplacement, candidates, text_before, Reads, ReadsInner, ServesFor, Run, Serving, Attempt, inner-run-test-law, run-test-law}
 use Rattle.typst_candidates.specs.declared.candidate.Candidate as code
 use Rattle.typst_edits.specs.RunKind.TheVariants as of
 use Rattle.typst_edits.specs.Served.RunOf.{inner, own}
 use Rattle.typst_parser.proofs.Answering.{candidate-stands, entries-are, root-fits}
 use Rattle.typst_parser.proofs.Inner.{run-found, run-some}
-use Rattle.typst_parser.proofs.Laws.{inner-run-test-law, run-test-law}
 
 abbrev pub top_run : Run
 top_run = record { kind = of.Text; at = 0; levels = 256; first_entry = 0 }
@@ -19,7 +18,7 @@ module _ {C : Type 0} (k : CharClasses) (a : Attempt C) (ch : TextReplacement) w
     pieces = pieces;
     run = own refl;
     some = omega arith;
-    found = run-test-law k ch.front ch.old ch.new ch.rest a.root.now (at_path [] d) ready.holds.tree_is among pieces refl ready.makes.fits ready.makes.fits_now;
+    found = run-test-law k ch a.root.now (at_path [] d) ready.holds.tree_is among pieces refl ready.makes.fits ready.makes.fits_now;
     serves = serves;
   }
 
@@ -63,8 +62,8 @@ module _ {C : Type 0} (k : CharClasses) (a : Attempt C) (ch : TextReplacement) (
 
   module _ (pieces : d.is_block ≡ false) (r : Option Run) (finds : (opens : ℕ) (e : Entry) → opening_of (start_at above 0 a.root.now) 0 0 a.records.now.units.entries ≡ Some opens → slice_get a.records.now.units.entries opens ≡ Some e
       → r ≡ Some (record { kind = of.Block; at = start_at above 0 a.root.now; levels = e.count; first_entry = suc opens })) where
-    f : FoundInner k ch.front ch.old ch.new ch.rest a.root.now (at_path path d)
-    f = inner-run-test-law k ch.front ch.old ch.new ch.rest a.root.now (at_path path d) ready.holds.tree_is among pieces below ready.makes.fits ready.makes.fits_now
+    f : FoundInner k ch a.root.now (at_path path d)
+    f = inner-run-test-law k ch a.root.now (at_path path d) ready.holds.tree_is among pieces below ready.makes.fits ready.makes.fits_now
 
     is : a.records.now.units.entries ≡ entries_in k (text_before ch)
     is = entries-are k ch a.root.now a.records.now.units ready.holds

@@ -1,7 +1,6 @@
 -- A tree that answers an edit.
 use Rattle.typst_parser.proofs.Cited.{◌≡◌, ℕ, zero, suc, ◌+◌, ◌-◌, ◌<◌, ◌≤◌, ◌^◌, Bool, true, IsTrue, List, [], ◌∷◌, ◌++◌, length, take, drop, length-append, length-take-le, length-drop, Option, Some, None, ap, sym, subst, ◌∙◌, arith, chars, Range, encodes-chars, Tree, bare, forest, joined, text_of, start_at, start_in, or_none, At, Reaches, kids_of, replaced_at, replaces_text, start_le, text_bare, CharClasses, width, Candidate, IsAnswer, part, whole, StandsIn, Every, tree, log, listed, candidate-places-law, tree-inner, leaves, width-append, TextReplacement, text_before, text_after, Makes, Holds, candidates, Units, units_of, NonePasses, Takes, Reread, Replacement, Held, AreNumbered, AreOrdered, file_of, numbered_in, Answers, change_of, Edits, IsEdited, IsPlaced, IsPlacedBy, KeepsRecords, ReadsWhole, change_by, AreInOrder, IsNumbered, numbers_of}
 use Rattle.std.specs.Prelude.{IfSome, slice_get}
-use Rattle.typst_edits.specs.Answer as answer
 use Rattle.typst_parser.proofs.Changed.{after, before, long-now, makes, utf8-now, width-chars}
 use Rattle.typst_parser.proofs.Fresh.{fresh-file, fresh-numbers, placed-new}
 use Rattle.typst_parser.proofs.Replaced.{Stays, replaced-stays, few-nodes}
@@ -54,21 +53,21 @@ middle-of P (y ∷ earlier) x later h = middle-of P earlier x later h.1
 
 -- ---- what answers an edit
 
-module _ (k : CharClasses) (front old new rest : List ℕ) (was now : Tree) (range : Range ℕ) (same : bare was ≡ bare (tree k (front ++ (old ++ rest)))) (is_now : bare now ≡ bare (tree k (front ++ (new ++ rest)))) where
+module _ (k : CharClasses) (edit : TextReplacement) (was now : Tree) (range : Range ℕ) (same : bare was ≡ bare (tree k (text_before edit))) (is_now : bare now ≡ bare (tree k (text_after edit))) where
   abbrev cs : List Candidate
-  cs = answer.candidates k (front ++ (old ++ rest)) (width front) (width (front ++ old)) was
+  cs = candidates k edit was
 
   inner : IsTrue was.head.is_inner
-  inner = subst (λ (b : Bool). IsTrue b) (sym (ap (λ (t : Tree). t.head.is_inner) same)) (tree-inner k (front ++ (old ++ rest)))
+  inner = subst (λ (b : Bool). IsTrue b) (sym (ap (λ (t : Tree). t.head.is_inner) same)) (tree-inner k (text_before edit))
 
   stands : (earlier : List Candidate) (c : Candidate) (later : List Candidate) → cs ≡ earlier ++ c ∷ later → StandsIn was c
   stands earlier c later split =
-      grind (arith, candidate-places-law (listed (log k (front ++ (old ++ rest))).notes) (width front) (width (front ++ old)) was inner (omega (arith, width-append front old)), middle-of)
+      grind (arith, candidate-places-law (listed (log k (text_before edit)).notes) (width edit.front) (width (edit.front ++ edit.old)) was inner (omega (arith, width-append edit.front edit.old)), middle-of)
 
   held-part : (path : List ℕ) (from to : ℕ) (ts : List Tree) → Reaches path from to was → replaced_at path from to ts was ≡ Some now → KeepsNumbers was now → AreNumbered (file_of was) was → IsPlaced (file_of was) was → IsHeldAs was now
   held-part path from to ts reaches put order numbers placed = grind (arith, replaced-stays, numbers-part, order, placed-part)
 
-  held : IsAnswer k front old new rest cs was now range → KeepsNumbers was now → AreNumbered (file_of was) was → IsPlaced (file_of was) was → IsHeldAs was now
+  held : IsAnswer k edit cs was now range → KeepsNumbers was now → AreNumbered (file_of was) was → IsPlaced (file_of was) was → IsHeldAs was now
   held (part earlier c later ts split refused gives put start end) order numbers placed = held-part c.path c.from c.to ts (stands earlier c later split).reaches put order numbers placed
   held (whole refused is bytes) order numbers placed = grind (arith, fresh-file, fresh-numbers, ordered-whole, order, placed-new, tree-inner, placed-whole)
 
@@ -78,7 +77,7 @@ module _ (k : CharClasses) (front old new rest : List ℕ) (was now : Tree) (ran
     ordered : range.start ≤ range.end
     within : range.end ≤ n
 
-  lies : IsAnswer k front old new rest cs was now range → length (text_of was) ≡ width (front ++ (old ++ rest)) → length (text_of now) ≡ width (front ++ (new ++ rest)) → Lies (width (front ++ (new ++ rest)))
+  lies : IsAnswer k edit cs was now range → length (text_of was) ≡ width (text_before edit) → length (text_of now) ≡ width (text_after edit) → Lies (width (text_after edit))
   lies (part earlier c later ts split refused gives put start end) long long_now =
       let s = stands earlier c later split in
       let from = start_at c.path c.from was in
@@ -87,7 +86,7 @@ module _ (k : CharClasses) (front old new rest : List ℕ) (was now : Tree) (ran
       let within = start_le c.path c.to was in
       let text = ap length (replaces_text c.path c.from c.to ts was now s.reaches put) in
       let sum : length (text_of now) + to ≡ from + length (joined (forest ts)) + length (text_of was) = omega (arith, text, rises, within, length-append (take from (text_of was)) (joined (forest ts) ++ drop to (text_of was)), length-append (joined (forest ts)) (drop to (text_of was)), length-take-le from (text_of was) (omega (arith, rises, within)), length-drop to (text_of was)) in
-      let widths : width (front ++ (old ++ rest)) + width new ≡ width (front ++ (new ++ rest)) + width old = omega (arith, width-append front (old ++ rest), width-append old rest, width-append front (new ++ rest), width-append new rest) in
+      let widths : width (text_before edit) + width edit.new ≡ width (text_after edit) + width edit.old = omega (arith, width-append edit.front (edit.old ++ edit.rest), width-append edit.old edit.rest, width-append edit.front (edit.new ++ edit.rest), width-append edit.new edit.rest) in
       grind arith
   lies (whole refused is bytes) long long_now = record { ordered = omega (arith, ap (λ (r : Range ℕ). r.start) bytes); within = omega (arith, ap (λ (r : Range ℕ). r.end) bytes) }
 
@@ -126,7 +125,7 @@ module _ {C : Type 0} (k : CharClasses) (old now : Held C) (e : Replacement) (h 
       leaves-again = sym (text_bare now.root) ∙ ap text_of tree-again ∙ text_bare (tree k (chars now.text)) ∙ leaves k (chars now.text) ∙ encodes-chars now.text (utf8-now old.text now.text e h)
 
       held-again : IsHeldAs old.root now.root
-      held-again = held k c.front c.old c.new c.rest old.root now.root read.range tree-was takes.tree_is takes.answer order had.headline.numbers had.placed
+      held-again = held k c old.root now.root read.range tree-was takes.tree_is takes.answer order had.headline.numbers had.placed
 
       -- the records are those of the text now
       pub records-again : KeepsRecords k now units_now
@@ -140,23 +139,23 @@ module _ {C : Type 0} (k : CharClasses) (old now : Held C) (e : Replacement) (h 
         are = record { are = takes.units_are ∙ ap (λ s. units_of (log k s)) (sym (after old.text now.text e h)); fits = fits };
       }
 
-      range-again : Lies k c.front c.old c.new c.rest old.root now.root read.range tree-was takes.tree_is (width (text_after c))
+      range-again : Lies k c old.root now.root read.range tree-was takes.tree_is (width (text_after c))
       range-again =
-          lies k c.front c.old c.new c.rest old.root now.root read.range tree-was takes.tree_is takes.answer
+          lies k c old.root now.root read.range tree-was takes.tree_is takes.answer
           (ap length had.headline.leaves ∙ sym (width-chars old.text h.utf8_old) ∙ ap width (sym (before old.text now.text e h)))
           (ap length leaves-again ∙ sym (long-now old.text now.text e h))
 
       pub edits-again : now.id ≡ old.id → now.classes ≡ old.classes → now.has_records ≡ true → Edits k old now now.text read.range
       edits-again id classes has = grind (arith, records-again, held-again, range-again, long-now)
 
-      pub answer-again : IsAnswer k c.front c.old c.new c.rest (candidates k c old.root) old.root now.root read.range
+      pub answer-again : IsAnswer k c (candidates k c old.root) old.root now.root read.range
       answer-again = takes.answer
 
 -- ---- what an edit of a source answers
 
 module _ {C : Type 0} (k : CharClasses) (old now : Held C) (with : List ℕ) (r : Range ℕ) (n : ℕ) (lines : List ℕ) (h : IsEdited old.text lines (record { start = r.start; old_end = r.end; new_end = n })) (same : h.with ≡ with) (range : Range ℕ) where
   abbrev Answered : List ℕ → Type 0
-  Answered new = let c = change_of old.text r new in IsAnswer k c.front c.old c.new c.rest (candidates k c old.root) old.root now.root range
+  Answered new = let c = change_of old.text r new in IsAnswer k c (candidates k c old.root) old.root now.root range
 
   is-whole : ReadsWhole k old now lines range → NonePasses k (change_by h) old.root → Answered h.with
   is-whole w none =

@@ -1,10 +1,9 @@
 -- What an edit answers is an edit of the root's children.
-use Rattle.typst_parser.proofs.Cited.{◌≡◌, ℕ, suc, ◌+◌, ◌<◌, ◌≤◌, IsTrue, true, List, [], ◌∷◌, ◌++◌, length, take, drop, get_or, Some, refl, ap, sym, subst, ◌∙◌, arith, append_assoc, append-nil, length-append, slice_range, chars, IsCharBoundary, IsUtf8, Range, set, slice_get_within, get_or_from_slice_get, CharClasses, Tree, bare, bare_forest, forest, joined, text_of, trees, kids_of, with_kids, replaced_at, Reaches, or_none, start_at, start_in, below, joined-append, replaced_bare, start_le, text_bare, text_over, text_split, forest_trees, width, log, tree, IsAnswer, part, whole, StandsIn, listed, candidate-places-law, in-order, tree-inner, among, width-append, Answers, TextReplacement, candidates, text_after, text_before, Headline, edited, Held, IsEdited, change_by, Replacement, chosen-of}
+use Rattle.typst_parser.proofs.Cited.{◌≡◌, ℕ, suc, ◌+◌, ◌<◌, ◌≤◌, IsTrue, true, List, [], ◌∷◌, ◌++◌, length, take, drop, get_or, Some, refl, ap, sym, subst, ◌∙◌, arith, append_assoc, append-nil, length-append, slice_range, chars, IsCharBoundary, IsUtf8, Range, set, slice_get_within, get_or_from_slice_get, CharClasses, Tree, bare, bare_forest, forest, joined, text_of, trees, kids_of, with_kids, replaced_at, Reaches, or_none, start_at, start_in, below, joined-append, replaced_bare, start_le, text_bare, text_over, text_split, forest_trees, width, log, tree, IsAnswer, part, whole, StandsIn, listed, candidate-places-law, in-order, tree-inner, among, width-append, Answers, TextReplacement, candidates, text_after, text_before, Headline, edited, Held, IsEdited, change_by, Replacement, chosen-of, tree-is}
 use Rattle.std.proofs.lemmas.List.{set_split, set-get_or, take-append-drop}
 use Rattle.std.proofs.lemmas.List.Folds.{drop_split}
 use Rattle.typst_kinds.specs.declared.kind.SyntaxKind.TheVariants as kind
 use Rattle.typst_highlight.specs.RootEdits.{IsRootEdit, bytes_of}
-use Rattle.typst_edits.proofs.RunTrees.{tree-is}
 use Rattle.typst_parser.proofs.Changed.{after, before, long-now, width-chars}
 
 -- both roots are markup, without a text of their own
@@ -119,7 +118,7 @@ root_own k text t e = ap (λ u. u.head.text) e ∙ ap (λ (u : Tree). u.head.tex
 
 -- the law: what an edit answers, and the trees before it and after it
 pub root_edit : (k : CharClasses) (c : TextReplacement) (was now : Tree) (range : Range ℕ) → bare was ≡ bare (tree k (text_before c)) → bare now ≡ bare (tree k (text_after c)) → length (text_of was) ≡ width (text_before c) → length (text_of now) ≡ width (text_after c)
-    → IsAnswer k c.front c.old c.new c.rest (candidates k c was) was now range → range.start ≤ range.end → IsRootEdit was now range
+    → IsAnswer k c (candidates k c was) was now range → range.start ≤ range.end → IsRootEdit was now range
 root_edit k c was now range tree_was tree_now long_was long_now (part earlier d later ts split refused gives put start end) order =
     let inner : IsTrue was.head.is_inner = subst (λ b. IsTrue b) (sym (ap (λ (t : Tree). t.head.is_inner) tree_was)) (tree-inner k (text_before c)) in
     let stands : StandsIn was d =

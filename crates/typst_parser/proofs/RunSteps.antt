@@ -1,5 +1,5 @@
 -- The steps of reading pieces of a run again.
-use Rattle.typst_parser.proofs.Cited.{◌≡◌, ◌↔◌, ◌⊎◌, ℕ, ◌+◌, ◌-◌, ◌≤◌, ◌<◌, ◌^◌, Bool, true, List, length, Option, Some, None, ap, sym, subst, ◌∙◌, arith, Result, IfOk, IsCharBoundary, CharClasses, Place, moved, place_at, width, Tree, replaced_at, Log, Units, end_of, entries_by, spliced, units_of, AllFit, RunKind, log, ArePieces, HasRead, SaysBlock, entries_in, front_in, rear_in, text_with, Gives, listed, Ends, FoundInner, FoundRun, IsLast, LooksFrom, Reading, SaysPiece, nodes_by, notes_by, reading_on, MeetsOn, reading_of, Decides, Fails, IsPart, Speaks, at_path, TextReplacement, text_before, AreBounds, Begins, BeginsThere, HasBlock, HasReadSome, HasReadTo, IsPassing, IsRunOf, Reads, ServesNow, ServesRun, place_before, Asked, Bounds, ReparsedPart, Run, Serving, Vec, Attempt, Passing}
+use Rattle.typst_parser.proofs.Cited.{◌≡◌, ◌↔◌, ◌⊎◌, ℕ, ◌+◌, ◌-◌, ◌≤◌, ◌<◌, ◌^◌, Bool, true, List, length, Option, Some, None, ap, sym, subst, ◌∙◌, arith, Result, IfOk, IsCharBoundary, CharClasses, Place, moved, place_at, width, Tree, replaced_at, Log, Units, end_of, entries_by, spliced, units_of, AllFit, RunKind, log, ArePieces, HasRead, SaysBlock, entries_in, front_in, rear_in, start_after, Gives, listed, Ends, FoundInner, FoundRun, IsLast, LooksFrom, Reading, SaysPiece, nodes_by, notes_by, reading_on, MeetsOn, reading_of, Decides, Fails, IsPart, Speaks, at_path, TextReplacement, text_before, AreBounds, Begins, BeginsThere, HasBlock, HasReadSome, HasReadTo, IsPassing, IsRunOf, Reads, ServesNow, ServesRun, place_before, Asked, Bounds, ReparsedPart, Run, Serving, Vec, Attempt, Passing}
 use Rattle.typst_edits.specs.Block.TheVariants as block
 use Rattle.typst_candidates.specs.declared.candidate.Candidate as code
 use Rattle.typst_candidates.specs.Cursors as cursors
@@ -65,7 +65,7 @@ module _ {C : Type 0} (k : CharClasses) (a : Attempt C) (ch : TextReplacement) (
     step-to = to-within k ch (at_path path d) run.kind run.levels run.first_entry h.found b.to to-there
 
     module _ (test : (b.from.number < a.asked.now.front) × (a.asked.now.rear ≤ b.looks)) where
-      looks : (h.found.from < front_in k ch.front ch.old ch.rest) × (rear_in k ch.front ch.old ch.rest ≤ h.found.looks)
+      looks : (h.found.from < front_in k ch) × (rear_in k ch ≤ h.found.looks)
       looks = looks-taken k ch (at_path path d) run.kind run.levels run.first_entry h.found a.records.now.units.entries is b bounds a.asked.now.front a.asked.now.rear h.ready.front h.ready.rear test.0 test.1
 
       pub step-there : BeginsThere k ch path d run h.found b.from
@@ -109,14 +109,14 @@ module _ {C : Type 0} (k : CharClasses) (a : Attempt C) (ch : TextReplacement) (
                 let m = fits-so.0 holds in
                 serves-pass k ch a.root.now path d run h.found s now.0 now.1 target shift t so_far kept h.ready.holds.tree_is h.ready.makes.fits h.ready.makes.fits_now h.among h.pieces h.run looks.1 m.0 (meets-there m.1)
                 b from-there to-there p rest.0 rest.1 rest.2 (any so_far.has.count so_far.has.some)
-                (pieces k run.levels run.kind now.0.found.carried (moved now.0.found.at (text_with ch.front ch.new ch.rest)) so_far.has.count so_far.has.read)
+                (pieces k run.levels run.kind now.0.found.carried (moved now.0.found.at (start_after ch)) so_far.has.count so_far.has.read)
 
 -- ---- what takes its place
 
 module _ {C : Type 0} (k : CharClasses) (ch : TextReplacement) (q : Asked C) (root : Tree) (units : Units) (ready : Speaks k ch q root units) (path : List ℕ) (d : code.Candidate) (run : Run)
-    (f : FoundRun k ch.front ch.old ch.new ch.rest (at_path path d) run.kind run.levels run.first_entry) (p : Passing) (h : IsPassing k ch root path d run f p) where
+    (f : FoundRun k ch (at_path path d) run.kind run.levels run.first_entry) (p : Passing) (h : IsPassing k ch root path d run f p) where
   abbrev at_hand : Place
-  at_hand = moved h.begun.at (text_with ch.front ch.new ch.rest)
+  at_hand = moved h.begun.at (start_after ch)
 
   pub passing-start : p.first_candidate.start < 2 ^ 64 - 1
   passing-start = let s = found-starts k ch (at_path path p.first_candidate) run.kind run.levels run.first_entry h.begun in let w = ready.makes.fits in omega (arith, s, w)
@@ -136,7 +136,7 @@ module _ {C : Type 0} (k : CharClasses) (ch : TextReplacement) (q : Asked C) (ro
   -- nodes that it gives, which do what those that were read do
   pub record IsGiven : Type 0 where
     pub nodes : List Tree
-    pub gives : Gives k ch.front ch.old ch.new ch.rest (at_path path d) nodes
+    pub gives : Gives k ch (at_path path d) nodes
     pub puts : replaced_at path d.from d.to nodes root ≡ replaced_at path p.first_candidate.from d.to p.pieces.nodes.items root
 
   pub passing-gives : IsGiven
@@ -175,7 +175,7 @@ module _ {C : Type 0} (k : CharClasses) (ch : TextReplacement) (q : Asked C) (ro
 
 -- ---- a block's run
 
-module _ {C : Type 0} (k : CharClasses) (ch : TextReplacement) (q : Asked C) (root : Tree) (units : Units) (ready : Speaks k ch q root units) (path : List ℕ) (d : code.Candidate) (i : FoundInner k ch.front ch.old ch.new ch.rest root (at_path path d)) (run : Run)
+module _ {C : Type 0} (k : CharClasses) (ch : TextReplacement) (q : Asked C) (root : Tree) (units : Units) (ready : Speaks k ch q root units) (path : List ℕ) (d : code.Candidate) (i : FoundInner k ch root (at_path path d)) (run : Run)
     (of_it : IsRunOf k ch root (at_path path d) i run) where
   pub new-few : length q.new.now < 2 ^ 64 - 1
   new-few = grind (arith, width-chars)
@@ -189,7 +189,7 @@ module _ {C : Type 0} (k : CharClasses) (ch : TextReplacement) (q : Asked C) (ro
   pub says-inner : SaysBlock units.entries (run.first_entry - 1) i.to i.levels block.Content i.mode
   says-inner = inner-says k ch root (at_path path d) i run of_it units.entries (entries-are k ch root units ready.holds)
 
-  module _ (f : FoundRun k ch.front ch.old ch.new ch.rest (at_path path d) run.kind run.levels run.first_entry) (p : Passing) (h : IsPassing k ch root path d run f p) where
+  module _ (f : FoundRun k ch (at_path path d) run.kind run.levels run.first_entry) (p : Passing) (h : IsPassing k ch root path d run f p) where
     -- with the whole block's entries
     pub block-decides : (o : Option ReparsedPart) → HasBlock k (place_at q.new.now run.at) run.at i.levels i.mode (run.first_entry - 1) i.to p.first_candidate.from p.pieces o → Decides k ch root (at_path path d) o
     block-decides None w = absurd w

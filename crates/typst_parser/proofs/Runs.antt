@@ -1,9 +1,8 @@
 -- Pieces of a run: from what is found of a candidate to whether it passes.
-use Rattle.typst_parser.proofs.Cited.{◌≡◌, ◌↔◌, ◌⊎◌, inl, inr, ℕ, suc, ◌+◌, ◌-◌, ◌≤◌, ◌<◌, ◌^◌, Bool, true, List, length, take, drop, take-append-drop, Option, Some, None, refl, ap, sym, subst, ◌∙◌, arith, same_Some, CharClasses, Place, moved, width, Entry, Candidate, closing_of, piece_of, end_of, RunKind, entries_in, front_in, rear_in, text_with, BeginsAt, Ends, FoundRun, IsLast, LooksFrom, SaysPiece, byte_after, reading_on, MeetsOn, width-append, Fails, TextReplacement, Makes, text_after, text_before, AreBounds, Grows, place_before, Bounds, Replacement, end_on, run_level, stops_of}
+use Rattle.typst_parser.proofs.Cited.{◌≡◌, ◌↔◌, ◌⊎◌, inl, inr, ℕ, suc, ◌+◌, ◌-◌, ◌≤◌, ◌<◌, ◌^◌, Bool, true, List, length, take, drop, take-append-drop, Option, Some, None, refl, ap, sym, subst, ◌∙◌, arith, same_Some, CharClasses, Place, moved, width, Entry, Candidate, closing_of, piece_of, end_of, RunKind, entries_in, front_in, rear_in, start_after, BeginsAt, Ends, FoundRun, IsLast, LooksFrom, SaysPiece, byte_after, reading_on, MeetsOn, width-append, Fails, TextReplacement, Makes, text_after, text_before, AreBounds, Grows, place_before, Bounds, Replacement, end_on, run_level, stops_of, over-law}
 use Rattle.typst_candidates.specs.Cursors as cursors
 use Rattle.typst_edits.specs.RunKind.TheVariants as of
 use Rattle.typst_edits.specs.Point.{gap_of}
-use Rattle.typst_edits.proofs.RunOver.{over-law}
 use Rattle.typst_parser.proofs.Numbers.{After, begins-after, rear-within}
 use Rattle.typst_parser.proofs.Places.{position-within, sides-of}
 
@@ -116,10 +115,10 @@ shift-in c new e x y m h = grind (arith, width-append)
 
 -- ---- the test
 
-module _ (k : CharClasses) (c : TextReplacement) (d : Candidate) (which : RunKind) (levels first : ℕ) (f : FoundRun k c.front c.old c.new c.rest d which levels first) where
+module _ (k : CharClasses) (c : TextReplacement) (d : Candidate) (which : RunKind) (levels first : ℕ) (f : FoundRun k c d which levels first) where
   -- where it is read on
   abbrev pub place_now : Place
-  place_now = moved f.at (text_with c.front c.new c.rest)
+  place_now = moved f.at (start_after c)
 
   pub found-within : f.to < length (entries_in k (text_before c))
   found-within = ends-to (entries_in k (text_before c)) first d f.from f.to f.ends
@@ -141,7 +140,7 @@ module _ (k : CharClasses) (c : TextReplacement) (d : Candidate) (which : RunKin
   to-within p same = subst (λ (q : cursors.EntryPlace). q.number < length q.entries) (sym same) found-within
 
   -- the reading on grows
-  pub grows-there : f.from < front_in k c.front c.old c.rest → width (text_after c) < 2 ^ 64 - 1 → Grows k (reading_on which levels f.carried place_now)
+  pub grows-there : f.from < front_in k c → width (text_after c) < 2 ^ 64 - 1 → Grows k (reading_on which levels f.carried place_now)
   grows-there before few = record {
     rises = f.rises before;
     over = over-law k (reading_on which levels f.carried place_now);
@@ -162,15 +161,15 @@ module _ (k : CharClasses) (c : TextReplacement) (d : Candidate) (which : RunKin
     pub first-within : first ≤ length es
     first-within = let b = ends-from es first d f.from f.to ends-here in let l = b.least in let m = b.most in omega (arith, l, m)
 
-    module _ (b : Bounds) (bounds : AreBounds es f.from f.to f.looks (Some b)) (front rear : ℕ) (front_is : front ≡ front_in k c.front c.old c.rest) (rear_is : rear ≡ rear_in k c.front c.old c.rest) where
+    module _ (b : Bounds) (bounds : AreBounds es f.from f.to f.looks (Some b)) (front rear : ℕ) (front_is : front ≡ front_in k c) (rear_is : rear ≡ rear_in k c) where
       rear-most : rear ≤ length es
       rear-most = grind (arith, rear-within)
 
       -- the test of looks by the records is that of the candidate
-      pub looks-taken : b.from.number < front → rear ≤ b.looks → (f.from < front_in k c.front c.old c.rest) × (rear_in k c.front c.old c.rest ≤ f.looks)
+      pub looks-taken : b.from.number < front → rear ≤ b.looks → (f.from < front_in k c) × (rear_in k c ≤ f.looks)
       looks-taken before after = grind arith
 
-      pub looks-needed : f.from < front_in k c.front c.old c.rest → rear_in k c.front c.old c.rest ≤ f.looks → (b.from.number < front) × (rear ≤ b.looks)
+      pub looks-needed : f.from < front_in k c → rear_in k c ≤ f.looks → (b.from.number < front) × (rear ≤ b.looks)
       looks-needed before after = (let s = ap (λ (p : cursors.EntryPlace). p.number) bounds.0 in omega (arith, s, front_is, before), by-looks bounds.2)
         where
           by-looks : (b.looks ≡ f.looks) ⊎ ((b.looks ≡ length es) × (length es ≤ f.looks)) → rear ≤ b.looks

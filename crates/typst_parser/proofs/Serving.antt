@@ -1,8 +1,7 @@
 -- One reading of the new text, from one candidate of a run to the next.
-use Rattle.typst_parser.proofs.Cited.{◌≡◌, ◌↔◌, ◌⊎◌, ℕ, ◌+◌, ◌-◌, ◌≤◌, ◌<◌, ◌^◌, Bool, true, false, List, take, Option, Some, None, refl, ap, sym, subst, ◌∙◌, arith, IfSome, CharClasses, moved, width, Tree, bare, Entry, RunKind, tree, ArePieces, entries_in, rear_in, Among, text_with, FoundRun, MeetsOn, PassesOn, RunOf, Served, reading_of, Fails, at_path, TextReplacement, candidates, text_after, text_before, Begins, BeginsThere, Fit, GoesOn, Grows, HasReadSome, HasReadTo, IsPassing, Serves, ServesFor, ServesNow, ServesOr, ServesRun, place_before, Bounds, Run, Serving, Passing}
+use Rattle.typst_parser.proofs.Cited.{◌≡◌, ◌↔◌, ◌⊎◌, ℕ, ◌+◌, ◌-◌, ◌≤◌, ◌<◌, ◌^◌, Bool, true, false, List, take, Option, Some, None, refl, ap, sym, subst, ◌∙◌, arith, IfSome, CharClasses, moved, width, Tree, bare, Entry, RunKind, tree, ArePieces, entries_in, rear_in, Among, start_after, FoundRun, MeetsOn, PassesOn, RunOf, Served, reading_of, Fails, at_path, TextReplacement, candidates, text_after, text_before, Begins, BeginsThere, Fit, GoesOn, Grows, HasReadSome, HasReadTo, IsPassing, Serves, ServesFor, ServesNow, ServesOr, ServesRun, place_before, Bounds, Run, Serving, Passing, served-law}
 use Rattle.typst_candidates.specs.declared.candidate.Candidate as code
 use Rattle.typst_candidates.specs.Cursors as cursors
-use Rattle.typst_parser.proofs.Laws.{served-law}
 use Rattle.typst_parser.proofs.PieceReading.{fitting, unfit}
 use Rattle.typst_parser.proofs.Runs.{grows-there}
 
@@ -41,7 +40,7 @@ for-now k c root path d run is o s e h =
     let g : ServesFor k c root path d (Some s) = subst (ServesFor k c root path d) e h in
     (serves-here k c root path d.depth s run.kind run.levels run.first_entry is g.0, g.1)
 
-module _ (k : CharClasses) (c : TextReplacement) (root : Tree) (path : List ℕ) (d : code.Candidate) (run : Run) (g : FoundRun k c.front c.old c.new c.rest (at_path path d) run.kind run.levels run.first_entry) where
+module _ (k : CharClasses) (c : TextReplacement) (root : Tree) (path : List ℕ) (d : code.Candidate) (run : Run) (g : FoundRun k c (at_path path d) run.kind run.levels run.first_entry) where
   -- it begins
   pub begun-serves : Among (at_path path d) (candidates k c root) → d.is_block ≡ false → (at : cursors.EntryPlace) → BeginsThere k c path d run g at
       → (o : Option Serving) → Begins k (reading_of g) d at.number o → ServesNow k c root path d run o
@@ -100,14 +99,14 @@ module _ (k : CharClasses) (c : TextReplacement) (root : Tree) (path : List ℕ)
 
       module _ (tree_is : bare root ≡ bare (tree k (text_before c))) (fits : width (text_before c) < 2 ^ 64 - 1) (fits_now : width (text_after c) < 2 ^ 64 - 1)
           (among : Among (at_path path d) (candidates k c root)) (pieces : d.is_block ≡ false) (run_is : RunOf (entries_in k (text_before c)) root path run.kind run.levels run.first_entry) where
-        serving : Served k c.front c.old c.new c.rest root run.kind run.levels run.first_entry (at_path path s.first_candidate) (at_path path d) sv.found g
+        serving : Served k c root run.kind run.levels run.first_entry (at_path path s.first_candidate) (at_path path d) sv.found g
         serving =
-            served-law k c.front c.old c.new c.rest root run.kind run.levels run.first_entry (at_path path s.first_candidate) (at_path path d) tree_is sv.among among sv.pieces pieces refl goes.start fits fits_now run_is sv.found g sv.before
+            served-law k c root run.kind run.levels run.first_entry (at_path path s.first_candidate) (at_path path d) tree_is sv.among among sv.pieces pieces refl goes.start fits fits_now run_is sv.found g sv.before
 
         grows : Grows k (reading_of sv.found)
         grows = grows-there k c (at_path path s.first_candidate) run.kind run.levels run.first_entry sv.found sv.before fits_now
 
-        fit-there : (m : ℕ) → PassesOn k c.front c.old c.new c.rest (at_path path s.first_candidate) (at_path path d) (reading_of sv.found) g.to g.looks g.carried_end m
+        fit-there : (m : ℕ) → PassesOn k c (at_path path s.first_candidate) (at_path path d) (reading_of sv.found) g.to g.looks g.carried_end m
             → Fit k (entries_in k (text_before c)) (reading_of sv.found) (width c.old) (width c.new) d.end g.to (d.start < s.first_candidate.start) g.carried_end m
         fit-there m p = record { go = p.go; shifted = p.shifted; meets = p.meets }
 
@@ -126,9 +125,9 @@ module _ (k : CharClasses) (c : TextReplacement) (root : Tree) (path : List ℕ)
             (λ q. never (q.0, led-here t.reader.carried q.1)) p.0 (fit-there p.0 p.1))
 
         -- where they do, it passes
-        pub serves-pass : rear_in k c.front c.old c.rest ≤ g.looks → t.reader.end ≡ target → MeetsOn (entries_in k (text_before c)) run.kind g.to (d.start < t.first_candidate.start) h.has.count g.carried_end t.reader.carried
+        pub serves-pass : rear_in k c ≤ g.looks → t.reader.end ≡ target → MeetsOn (entries_in k (text_before c)) run.kind g.to (d.start < t.first_candidate.start) h.has.count g.carried_end t.reader.carried
             → (b : Bounds) → b.from ≡ place_before (entries_in k (text_before c)) g.from → b.to ≡ place_before (entries_in k (text_before c)) g.to → (p : Passing) → p.bounds ≡ b → p.first_candidate ≡ t.first_candidate → p.first_entry ≡ t.first_entry → (p.any ≡ true ↔ ((d.start < t.first_candidate.start) ⊎ (0 < h.has.count)))
-            → ArePieces k run.levels run.kind sv.found.carried (moved sv.found.at (text_with c.front c.new c.rest)) h.has.count p.pieces
+            → ArePieces k run.levels run.kind sv.found.carried (moved sv.found.at (start_after c)) h.has.count p.pieces
             → IsPassing k c root path d run g p
         serves-pass after at meets b from_is to_is p bounds first from any read =
             subst (λ x. IsPassing k c root path d run g (record { bounds = p.bounds; pieces = p.pieces; any = p.any; first_candidate = x; first_entry = p.first_entry })) (sym (first ∙ kept.0)) here

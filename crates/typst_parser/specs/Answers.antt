@@ -18,7 +18,7 @@ change_of text range new = record { front = chars (take range.start text); old =
 -- the new text; if there is none, and without records, it answers the whole new text, numbered in
 -- the file of the root.
 pub record Answers {C : Type 0} (k : CharClasses) (old new : Held C) (replace : Range ℕ) (with : List ℕ) (range : Range ℕ) : Type 0 where
-  pub recorded : old.has_records ≡ true → (let c = change_of old.text replace with in IsAnswer k c.front c.old c.new c.rest (candidates k c old.root) old.root new.root range)
+  pub recorded : old.has_records ≡ true → (let c = change_of old.text replace with in IsAnswer k c (candidates k c old.root) old.root new.root range)
   pub unrecorded : old.has_records ≡ false → (range ≡ record { start = 0; end = length new.text }) × (numbered_in (file_of old.root) (tree k (chars new.text)) ≡ Some new.root)
 
 -- Another text takes a text's place by one edit, of what the two don't have in common at the front

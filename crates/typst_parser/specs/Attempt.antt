@@ -27,8 +27,8 @@ pub record Speaks {C : Type 0} (k : CharClasses) (c : TextReplacement) (q : Aske
   pub text : IsUtf8 q.new.now
   pub makes : Makes c q.new.now q.edit
   pub holds : Holds k c root units
-  pub front : q.front ≡ front_in k c.front c.old c.rest
-  pub rear : q.rear ≡ rear_in k c.front c.old c.rest
+  pub front : q.front ≡ front_in k c
+  pub rear : q.rear ≡ rear_in k c
 
 -- An edit's attempt holds the old text's tree and units.
 abbrev pub IsReady : {C : Type 0} → CharClasses → TextReplacement → Attempt C → Type 0
@@ -39,7 +39,7 @@ IsReady {C} k c a = Speaks k c a.asked.now a.root.now a.records.now.units
 -- of the new text.
 pub record IsPart (k : CharClasses) (c : TextReplacement) (root : Tree) (d : Candidate) (p : ReparsedPart) : Type 0 where
   pub nodes : List Tree
-  pub gives : Gives k c.front c.old c.new c.rest d nodes
+  pub gives : Gives k c d nodes
   pub puts : replaced_at d.path d.from d.to nodes root ≡ replaced_at d.path p.first_child d.to p.nodes.items root
   pub first : p.first_child ≤ d.to
   pub end : p.end + width c.old ≡ d.end + width c.new
@@ -49,7 +49,7 @@ pub record IsPart (k : CharClasses) (c : TextReplacement) (root : Tree) (d : Can
 
 -- A candidate doesn't pass: no nodes meet its test.
 abbrev pub Fails : CharClasses → TextReplacement → Candidate → Type 0
-Fails k c d = (ts : List Tree) → Gives k c.front c.old c.new c.rest d ts → ⊥
+Fails k c d = (ts : List Tree) → Gives k c d ts → ⊥
 
 -- It was decided whether a candidate passes: a part takes its place, or it doesn't pass.
 abbrev pub Decides : CharClasses → TextReplacement → Tree → Candidate → Option ReparsedPart → Type 0

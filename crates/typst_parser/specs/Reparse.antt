@@ -26,13 +26,13 @@ use Rattle.typst_parser.specs.declared.edited.Reread.{Reread}
 -- The first candidate that passes and whose nodes find numbers was put in its place, in the tree
 -- and in the units; the tree is that of the new text, spans aside.
 pub record Takes (k : CharClasses) (c : TextReplacement) (was now : Tree) (units : Units) (range : Range ℕ) : Type 0 where
-  pub answer : IsAnswer k c.front c.old c.new c.rest (candidates k c was) was now range
+  pub answer : IsAnswer k c (candidates k c was) was now range
   pub tree_is : bare now ≡ bare (tree k (text_after c))
   pub units_are : units ≡ units_of (log k (text_after c))
 
 -- No candidate passes whose nodes find numbers.
 abbrev pub NonePasses : CharClasses → TextReplacement → Tree → Type 0
-NonePasses k c was = Every (Refused k c.front c.old c.new c.rest was) (candidates k c was)
+NonePasses k c was = Every (Refused k c was) (candidates k c was)
 
 -- ---- some candidates (for private clauses)
 
@@ -51,7 +51,7 @@ pub record CanTakeFirst {C : Type 0} (k : CharClasses) (q : Asked C) (root : Tre
 
 -- Among the first n candidates none passes whose nodes find numbers.
 abbrev pub NonePassesOf : CharClasses → TextReplacement → Tree → ℕ → Type 0
-NonePassesOf k c was n = Every (Refused k c.front c.old c.new c.rest was) (take n (candidates k c was))
+NonePassesOf k c was n = Every (Refused k c was) (take n (candidates k c was))
 
 -- The first candidate that passes and whose nodes find numbers was put in its place, or there is none among the
 -- first n.
@@ -71,14 +71,14 @@ pub record CanTake {C : Type 0} (k : CharClasses) (q : Asked C) (root : Tree) (u
 -- A candidate passed, and what it gives was put in its place, up to a byte of the new text.
 pub record HasTaken (k : CharClasses) (c : TextReplacement) (d : Candidate) (was now : Tree) (units : Units) (end : ℕ) : Type 0 where
   pub nodes : List Tree
-  pub gives : Gives k c.front c.old c.new c.rest d nodes
+  pub gives : Gives k c d nodes
   pub put : replaced_at d.path d.from d.to nodes was ≡ Some now
   pub shifted : end + width c.old ≡ d.end + width c.new
   pub units_are : units ≡ units_of (log k (text_after c))
 
 -- A candidate was put in its place, or is refused.
 abbrev pub TakesPlace : CharClasses → TextReplacement → Candidate → Tree → Tree → Units → Option ℕ → Type 0
-TakesPlace k c d was now units None = Refused k c.front c.old c.new c.rest was d
+TakesPlace k c d was now units None = Refused k c was d
 TakesPlace k c d was now units (Some end) = HasTaken k c d was now units end
 
 -- A part was put in place of children, or its nodes find no numbers and nothing changed.

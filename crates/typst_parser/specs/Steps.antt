@@ -20,8 +20,9 @@ use Rattle.typst_edits.specs.RunKind.TheVariants as of
 use Rattle.typst_edits.specs.Part.{ArePieces, HasRead, IsBlock, IsOver}
 use Rattle.typst_edits.specs.Pieces.{AllGo}
 use Rattle.typst_edits.specs.BlockTest.{entries_in, front_in}
-use Rattle.typst_edits.specs.Edit.{Among, text_with}
-use Rattle.typst_edits.specs.RunTest.{FoundInner, FoundRun, Reading, byte_after, carried_by, read_by}
+use Rattle.typst_edits.specs.Edit.{Among}
+use Rattle.typst_edits.specs.TextReplacement.{start_after}
+use Rattle.typst_edits.specs.RunTest.{FoundInner, FoundRun, Reading, byte_after, carried_by, pieces_by}
 use Rattle.typst_edits.specs.Served.{MeetsOn, PassesOn, RunOf, Served, reading_of}
 use Rattle.typst_parser.specs.Attempt.{Fails, IsReady, at_path}
 use Rattle.typst_parser.specs.TextReplacement.{TextReplacement, candidates, text_before}
@@ -70,14 +71,14 @@ pub record HasReadTo (k : CharClasses) (r : Reading) (end : ℕ) (any : Bool) (p
 -- More pieces end at a later byte, no pieces come after the run's end, and each ends at a byte of
 -- the machine.
 pub record Grows (k : CharClasses) (r : Reading) : Type 0 where
-  pub rises : (m j : ℕ) → m < j → AllGo (read_by k r j) → byte_after k r m < byte_after k r j
-  pub over : (m j : ℕ) → IsOver k r.levels r.which r.carried r.place m → AllGo (read_by k r j) → j ≤ m
+  pub rises : (m j : ℕ) → m < j → AllGo (pieces_by k r j) → byte_after k r m < byte_after k r j
+  pub over : (m j : ℕ) → IsOver k r.levels r.which r.carried r.place m → AllGo (pieces_by k r j) → j ≤ m
   pub fits : (m : ℕ) → byte_after k r m < 2 ^ 64
 
 -- A given number of pieces, after old ones or not, end where those do that ended at the byte `end` before the
 -- bytes `old` became the bytes `new`, and meet what is there.
 pub record Fit (k : CharClasses) (es : List Entry) (r : Reading) (old new end to : ℕ) (led : Type 0) (y : Bool × ℕ) (m : ℕ) : Type 0 where
-  pub go : AllGo (read_by k r m)
+  pub go : AllGo (pieces_by k r m)
   pub shifted : byte_after k r m + old ≡ end + new
   pub meets : MeetsOn es r.which to led m y (carried_by k r m)
 
@@ -89,11 +90,11 @@ pub record Serves (k : CharClasses) (c : TextReplacement) (root : Tree) (path : 
   pub depth_is : s.first_candidate.depth ≡ depth
   pub pieces : s.first_candidate.is_block ≡ false
   pub among : Among (at_path path s.first_candidate) (candidates k c root)
-  pub found : FoundRun k c.front c.old c.new c.rest (at_path path s.first_candidate) which levels entry
+  pub found : FoundRun k c (at_path path s.first_candidate) which levels entry
   pub from : s.first_entry ≡ found.from
-  pub before : found.from < front_in k c.front c.old c.rest
+  pub before : found.from < front_in k c
   pub count : ℕ
-  pub read : HasRead k levels which found.carried (moved found.at (text_with c.front c.new c.rest)) count s.reader
+  pub read : HasRead k levels which found.carried (moved found.at (start_after c)) count s.reader
   pub some : s.any ≡ true ↔ 0 < count
   -- fewer pieces end before the end of the last candidate that it went on for
   pub less : (j : ℕ) → j < count → byte_after k (reading_of found) j + width c.old < s.last + width c.new
@@ -139,13 +140,13 @@ pub record Reads {C : Type 0} (k : CharClasses) (c : TextReplacement) (a : Attem
   pub pieces : d.is_block ≡ false
   pub run : RunOf (entries_in k (text_before c)) a.root.now path r.kind r.levels r.first_entry
   pub some : 0 < r.levels
-  pub found : FoundRun k c.front c.old c.new c.rest (at_path path d) r.kind r.levels r.first_entry
+  pub found : FoundRun k c (at_path path d) r.kind r.levels r.first_entry
   pub serves : ServesFor k c a.root.now path d s
 
 -- A candidate begins at this place, before which all looks end before the stretch.
-pub record BeginsThere (k : CharClasses) (c : TextReplacement) (path : List ℕ) (d : code.Candidate) (r : Run) (f : FoundRun k c.front c.old c.new c.rest (at_path path d) r.kind r.levels r.first_entry) (at : cursors.EntryPlace) : Type 0 where
+pub record BeginsThere (k : CharClasses) (c : TextReplacement) (path : List ℕ) (d : code.Candidate) (r : Run) (f : FoundRun k c (at_path path d) r.kind r.levels r.first_entry) (at : cursors.EntryPlace) : Type 0 where
   pub is : at ≡ place_before (entries_in k (text_before c)) f.from
-  pub before : f.from < front_in k c.front c.old c.rest
+  pub before : f.from < front_in k c
 
 -- A reading begins with a candidate, at an entry.
 abbrev pub Begins : CharClasses → Reading → code.Candidate → ℕ → Option Serving → Type 0
@@ -158,28 +159,28 @@ ServesNow k c root path d r None = ⊥
 ServesNow k c root path d r (Some s) = Serves k c root path d.depth r.kind r.levels r.first_entry s × GoesOn d s
 
 -- Pieces were read that pass for a candidate.
-pub record IsPassing (k : CharClasses) (c : TextReplacement) (root : Tree) (path : List ℕ) (d : code.Candidate) (run : Run) (f : FoundRun k c.front c.old c.new c.rest (at_path path d) run.kind run.levels run.first_entry) (p : Passing) : Type 0 where
+pub record IsPassing (k : CharClasses) (c : TextReplacement) (root : Tree) (path : List ℕ) (d : code.Candidate) (run : Run) (f : FoundRun k c (at_path path d) run.kind run.levels run.first_entry) (p : Passing) : Type 0 where
   pub from : p.bounds.from ≡ place_before (entries_in k (text_before c)) f.from
   pub to : p.bounds.to ≡ place_before (entries_in k (text_before c)) f.to
   -- their reading began with this candidate
-  pub begun : FoundRun k c.front c.old c.new c.rest (at_path path p.first_candidate) run.kind run.levels run.first_entry
+  pub begun : FoundRun k c (at_path path p.first_candidate) run.kind run.levels run.first_entry
   pub entry : p.first_entry ≡ begun.from
-  pub before : begun.from < front_in k c.front c.old c.rest
-  pub served : Served k c.front c.old c.new c.rest root run.kind run.levels run.first_entry (at_path path p.first_candidate) (at_path path d) begun f
+  pub before : begun.from < front_in k c
+  pub served : Served k c root run.kind run.levels run.first_entry (at_path path p.first_candidate) (at_path path d) begun f
   pub count : ℕ
-  pub passes : PassesOn k c.front c.old c.new c.rest (at_path path p.first_candidate) (at_path path d) (reading_of begun) f.to f.looks f.carried_end count
+  pub passes : PassesOn k c (at_path path p.first_candidate) (at_path path d) (reading_of begun) f.to f.looks f.carried_end count
   pub some : p.any ≡ true ↔ ((d.start < p.first_candidate.start) ⊎ (0 < count))
-  pub read : ArePieces k run.levels run.kind begun.carried (moved begun.at (text_with c.front c.new c.rest)) count p.pieces
+  pub read : ArePieces k run.levels run.kind begun.carried (moved begun.at (start_after c)) count p.pieces
 
 -- It was decided of a candidate: pieces were read that pass, or it doesn't pass.
-abbrev pub Settles : (k : CharClasses) (c : TextReplacement) (root : Tree) (path : List ℕ) (d : code.Candidate) (run : Run) → FoundRun k c.front c.old c.new c.rest (at_path path d) run.kind run.levels run.first_entry → Option Passing → Type 0
+abbrev pub Settles : (k : CharClasses) (c : TextReplacement) (root : Tree) (path : List ℕ) (d : code.Candidate) (run : Run) → FoundRun k c (at_path path d) run.kind run.levels run.first_entry → Option Passing → Type 0
 Settles k c root path d run f None = Fails k c (at_path path d)
 Settles k c root path d run f (Some p) = IsPassing k c root path d run f p
 
 -- ---- a block's run
 
 -- A run is that of the content block above a candidate.
-pub record IsRunOf (k : CharClasses) (c : TextReplacement) (root : Tree) (d : Candidate) (f : FoundInner k c.front c.old c.new c.rest root d) (run : Run) : Type 0 where
+pub record IsRunOf (k : CharClasses) (c : TextReplacement) (root : Tree) (d : Candidate) (f : FoundInner k c root d) (run : Run) : Type 0 where
   pub kind : run.kind ≡ of.Block
   pub at : run.at ≡ start_at (take (length d.path - 1) d.path) 0 root
   pub levels : run.levels ≡ f.levels
@@ -192,7 +193,7 @@ pub record ReadsInner {C : Type 0} (k : CharClasses) (c : TextReplacement) (a : 
   pub among : Among (at_path path d) (candidates k c a.root.now)
   pub pieces : d.is_block ≡ false
   pub below : path ≡ [] → ⊥
-  pub found : FoundInner k c.front c.old c.new c.rest a.root.now (at_path path d)
+  pub found : FoundInner k c a.root.now (at_path path d)
   pub is : IsRunOf k c a.root.now (at_path path d) found run
   pub serves : ServesFor k c a.root.now path d s
 

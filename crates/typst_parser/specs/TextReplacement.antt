@@ -4,27 +4,11 @@ use Rattle.std.specs.Str.{chars}
 use Rattle.typst_lines.specs.Classes.{CharClasses}
 use Rattle.typst_tokens.specs.Sight.{width}
 use Rattle.typst_tree.specs.Tree.{Tree, bare}
-use Rattle.typst_candidates.specs.Candidates.{Candidate}
 use Rattle.typst_candidates.specs.Entries.{Units, units_of}
-use Rattle.typst_edits.specs.Answer as answer
+pub use Rattle.typst_edits.specs.Answer.{candidates}
+pub use Rattle.typst_edits.specs.TextReplacement.{TextReplacement, text_before, text_after}
 use Rattle.typst_edits.specs.Grammar.{tree, log}
 use Rattle.typst_parser.specs.declared.replacement.Replacement.{Replacement}
-
--- an edit of a text: what is before the replaced stretch, the stretch, what takes its place, and
--- the rest
-pub record TextReplacement : Type 0 where
-  pub front : List ℕ
-  pub old : List ℕ
-  pub new : List ℕ
-  pub rest : List ℕ
-
--- the text before the edit
-abbrev pub text_before : TextReplacement → List ℕ
-text_before c = c.front ++ (c.old ++ c.rest)
-
--- the text after the edit
-abbrev pub text_after : TextReplacement → List ℕ
-text_after c = c.front ++ (c.new ++ c.rest)
 
 -- A replacement, in bytes, makes this change, and `new` is the new text; a machine word counts both
 -- texts.
@@ -40,7 +24,3 @@ pub record Makes (c : TextReplacement) (new : List ℕ) (e : Replacement) : Type
 pub record Holds (k : CharClasses) (c : TextReplacement) (root : Tree) (units : Units) : Type 0 where
   pub tree_is : bare root ≡ bare (tree k (text_before c))
   pub units_are : units ≡ units_of (log k (text_before c))
-
--- the candidates of the edit, by the tree of the text before it
-abbrev pub candidates : CharClasses → TextReplacement → Tree → List Candidate
-candidates k c root = answer.candidates k (text_before c) (width c.front) (width (c.front ++ c.old)) root

@@ -22,5 +22,5 @@ Tries k old new text None = new ≡ old
 -- What is read is the answer of an edit. If nothing is read and there are records, no candidate
 -- passes whose nodes find numbers, unless the text is one that no machine word counts.
 abbrev pub AnswersEdit : {C : Type 0} → CharClasses → Held C → Held C → List ℕ → TextReplacement → Option (Range ℕ) → Type 0
-AnswersEdit k old new text c (Some range) = (old.has_records ≡ true) × IsAnswer k c.front c.old c.new c.rest (candidates k c old.root) old.root new.root range
+AnswersEdit k old new text c (Some range) = (old.has_records ≡ true) × IsAnswer k c (candidates k c old.root) old.root new.root range
 AnswersEdit k old new text c None = old.has_records ≡ true → length text < 2 ^ 64 - 1 → NonePasses k c old.root

@@ -104,7 +104,7 @@ pub(crate) struct Asked<'a, C> {
     pub new: &'a str,
     /// What was replaced.
     pub edit: Replacement,
-    /// The number of the first entries that are before the stretch, with all looks up to them.
+    /// How many of the first entries are before the stretch, with all looks up to them.
     pub front: usize,
     /// The number of the entry from which on all looks begin after the stretch.
     pub rear: usize,
@@ -171,7 +171,7 @@ impl<'a, 's, C: Classes> Attempt<'a, 's, C> {
         from_entry < self.asked.front && self.asked.rear <= to_entry
     }
 
-    /// The number of the entry after that of a number, or of all entries after the last.
+    /// The number of the next entry; after the last, the count of all entries.
     fn after(&self, number: usize) -> usize
         requires { number < length self.now.records.now.units.entries }
         ensures { result ≡ suc number }

@@ -1,4 +1,4 @@
-//! Reads of an edited text what the edit may have changed.
+//! Reads again what an edit of a text may have changed.
 
 ghost use Rattle.std.specs.Prelude.{◌≡◌, ℕ, ◌<◌, ◌≤◌, ◌^◌, Some, None, IfOk, IfSome, OnOk, OnErr, List, length, take, true};
 ghost use Rattle.typst_tree.specs.Tree.{Tree, text_of, trees};
@@ -21,12 +21,12 @@ use typst_kinds::SourceError;
 use typst_lines::Classes;
 use typst_tree::{Boundary, SyntaxNode};
 
-/// How many candidates are looked up at first. The first one nearly always passes, and these few are found
-/// around the edit; to find all goes from there to the ends of each run that the edit is in.
+/// How many candidates are looked up at first. The first one nearly always passes, and these few are found around the
+/// edit; finding all goes on from there to the ends of each run around the edit.
 const FEW: usize = 4;
 
-/// How many bytes on each side of an edit pieces of runs are looked up at first. Those around an edit lie within a
-/// few hundred bytes; the further pieces of a long run cost more than all else that an edit does.
+/// Within how many bytes of an edit pieces of runs are looked up at first. Those around an edit lie within a few
+/// hundred bytes; the further pieces of a long run cost more than all else that an edit does.
 const REACH: usize = 1000;
 
 /// What was read again of an edited text.
@@ -38,10 +38,9 @@ pub struct Reread {
     pub boundary: Boundary,
 }
 
-/// Reads of an edited text the first candidate that passes and whose nodes find numbers, and puts its
-/// nodes and units in place. Answers what was read, or `None` if there is none: then the tree and the units stay as
-/// they were. The root's children near the edit are looked for from the place `boundary` between them, or from an
-/// end that is nearer.
+/// Reads the first candidate of an edited text that passes and whose nodes find numbers, and puts its nodes and units
+/// in place. Answers what was read, or `None` if there is none: then the tree and the units stay as they were. The
+/// root's children near the edit are looked for from the place `boundary` between them, or from an end that is nearer.
 pub fn reparse<C: Classes>(
     alloc: Global,
     root: &mut SyntaxNode,
@@ -132,10 +131,10 @@ fn edge_of(boundary: Boundary) -> Edge
     }
 }
 
-/// Puts what takes the place of the first candidate there that passes and whose nodes find numbers, among those
-/// from the one numbered `from` on; answers what was read, or `None` if there is none. In that case, and if memory is
-/// refused, nothing changes. Before each attempt, while the tree is the old one, it goes from the known place to the
-/// one before the children that the attempt would change.
+/// Replaces the first candidate that passes and whose nodes find numbers, among those from the one numbered `from` on;
+/// answers what was read, or `None` if there is none. In that case, and if memory is refused, nothing changes. Before
+/// each attempt, while the tree is the old one, it goes from the known place to the one before the children that the
+/// attempt would change.
 fn take_first<C: Classes>(
     alloc: Global,
     root: &mut SyntaxNode,
@@ -182,8 +181,8 @@ fn first_changed(path: &[usize], candidate: Candidate, step: usize) -> usize
     step
 }
 
-/// The place before the root's child of an index, or the one before all where the tree's nodes can't be counted. Goes
-/// there from a known place, or from an end that is nearer.
+/// The place before the root's child of an index, or before all if the tree's nodes can't be counted. Goes there from a
+/// known place, or from an end that is nearer.
 fn place_before(root: &SyntaxNode, known: Boundary, index: usize) -> Boundary
     requires fits { length (text_of root.now) < 2 ^ 64 }
     requires known { IsBoundary root.now known }
@@ -219,8 +218,8 @@ fn front_of(path: &[usize], depth: usize) -> &[usize]
     }
 }
 
-/// Puts what takes the candidate's place there, if it passes and its nodes find numbers; answers where it ends in
-/// the new text. Otherwise nothing changes.
+/// Replaces the candidate, if it passes and its nodes find numbers; answers where it ends in the new text. Otherwise
+/// nothing changes.
 fn take_place<'s, C: Classes>(
     alloc: Global,
     root: &mut SyntaxNode,

@@ -18,8 +18,8 @@ pub struct Recorded {
     pub records: Records,
 }
 
-/// The syntax tree of a text of markup and its units. It fails only for lack of memory, of which there is never
-/// enough for a text that is as long as a number of the machine can say.
+/// The syntax tree of a text of markup and its units. It fails only for lack of memory, which it also reports for a
+/// text of `usize::MAX` bytes.
 pub fn parse_recorded<C: Classes>(
     alloc: Global,
     text: &str,

@@ -39,8 +39,8 @@ pub struct Source<C: Classes> {
     has_records: bool,
     /// The units of the text's reading.
     records: Records,
-    /// A place between the root's children, from which those near the next edit are looked for: before those that the
-    /// last one read again, since the next edit is mostly near.
+    /// A place between the root's children, from which the next edit looks for those near it: before those that the
+    /// last edit read again, as edits are mostly close together.
     boundary: Boundary,
 }
 
@@ -133,7 +133,7 @@ impl<C: Classes + Drop> Source<C> {
         })
     }
 
-    /// The source of a text that is of no file: its file is 1. It fails where `new` does.
+    /// The source of a text without a file: it gets file 1. It fails where `new` does.
     pub fn detached(alloc: Global, text: String, classes: C) -> Result<Source<C>, SourceError>
         ensures made { IfOk result (λ s. (s.id ≡ 1) × (s.text ≡ string_bytes text) × (s.classes ≡ classes) × (s.has_records ≡ true)) }
         ensures headline { IfOk result (λ s. Headline (C.classes s.classes) s) }
@@ -390,8 +390,8 @@ impl<C: Classes> Source<C> {
         Ok(0..end)
     }
 
-    /// Makes another text the text, by an edit of what the two don't have in common at the front and at the end.
-    /// If the texts are equal it answers `0..0` and changes nothing.
+    /// Replaces the text by another, by an edit of what lies between their common front and their common end. If the
+    /// texts are equal it answers `0..0` and changes nothing.
     pub fn replace(&mut self, new: &str) -> Result<Range<usize>, SourceError>
         ensures text { OnOk result (self.new.text ≡ new.now) }
         ensures same { self.old.text ≡ new.now → (result ≡ Ok (record { start = 0; end = 0 })) × (self.new ≡ self.old) }
@@ -414,7 +414,7 @@ impl<C: Classes> Source<C> {
 }
 
 impl<C: Classes + Copy> Source<C> {
-    /// A copy: to any calls it answers what this one does, lack of memory aside.
+    /// A copy: it answers any call as this one does, except for lack of memory.
     pub fn try_clone(&self) -> Result<Source<C>, AllocError>
         ensures { IfOk result (λ s. s ≡ self.now) }
     {

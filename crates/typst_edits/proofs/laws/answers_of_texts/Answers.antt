@@ -1,5 +1,5 @@
-use Rattle.typst_edits.proofs.Cited.{refl, arith, false, [], ◌∷◌, CharClasses, by_law, Trivia, no_newlines, Gives, text_with, asked_past, Candidate, part, ℕ, codes}
-use Rattle.typst_edits.specs.AnswerExamples.{first_four, new_four}
+use Rattle.typst_edits.proofs.Cited.{refl, arith, false, [], ◌∷◌, CharClasses, by_law, Trivia, no_newlines, Gives, start_before, asked_past, Candidate, part, ℕ, codes}
+use Rattle.typst_edits.specs.AnswerExamples.{plus, first_four, new_four}
 use Rattle.typst_edits.specs.Frame.Gives.{of_pieces}
 use Rattle.typst_edits.specs.Frame.Run.{top}
 use Rattle.typst_edits.proofs.Begins.{begins-all}
@@ -14,14 +14,14 @@ abbrev no_trivia : Trivia
 no_trivia = record { nodes = []; gap = 0; newlines = no_newlines }
 
 -- The first candidate of `abc~def~gh~`, where a plus replaces the `e`.
-first-passes : (beyond : CharClasses) → Gives (by_law beyond) (codes "abc~d") (codes "e") (codes "+") (codes "f~gh~") first_four new_four
+first-passes : (beyond : CharClasses) → Gives (by_law beyond) plus first_four new_four
 unfolding computing
 first-passes beyond = of_pieces top 0 4 4 2 no_trivia no_trivia refl refl refl ((λ h. h), (λ h. h)) refl (record {
   first_go = tt;
   old_go = (refl, (refl, (refl, (refl, tt))));
   new_go = (refl, (refl, (refl, (refl, tt))));
   before = λ h. absurd (omega (arith, h));
-  after = begins-all 2 (codes "f~gh~") (asked_past (by_law beyond) 0 4 no_trivia (text_with (codes "abc~d") (codes "e") (codes "f~gh~"))) refl;
+  after = begins-all 2 (codes "f~gh~") (asked_past (by_law beyond) 0 4 no_trivia (start_before plus)) refl;
   known = refl;
   known_now = refl;
   ends = refl;

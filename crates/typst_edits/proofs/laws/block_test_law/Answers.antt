@@ -1,6 +1,5 @@
 use Rattle.typst_edits.proofs.BlockTest.{block-test-law}
-use Rattle.typst_edits.proofs.InOrder.{in-order-law}
 use Rattle.typst_edits.proofs.laws.block_test_law.Goals as goal
 
 pub returns : goal.returns
-returns c = block-test-law in-order-law
+returns c = block-test-law

@@ -1,7 +1,6 @@
 use Rattle.typst_edits.proofs.InnerRuns.{inner-pieces-of-law}
-use Rattle.typst_edits.proofs.OpensApart.{opens-apart-law}
 use Rattle.typst_edits.proofs.RootRuns.{root-pieces-of-law}
 use Rattle.typst_edits.proofs.laws.candidate_runs_law.Goals as goal
 
 pub returns : goal.returns
-returns c = record { root = root-pieces-of-law; inner = inner-pieces-of-law opens-apart-law }
+returns c = record { root = root-pieces-of-law; inner = inner-pieces-of-law }

@@ -1,4 +1,4 @@
-use Rattle.typst_edits.proofs.Cited.{codes, refl, arith, by_law, text_with, asked_past}
+use Rattle.typst_edits.proofs.Cited.{codes, refl, arith, by_law, start_of, asked_past}
 use Rattle.typst_edits.specs.JointExamples.{no_trivia, two_comments, a_comment}
 use Rattle.typst_edits.proofs.Begins.{begins-all}
 use Rattle.typst_edits.proofs.Joint.{ends-alike}
@@ -15,7 +15,7 @@ returns c = λ beyond. record {
     new_go = (refl, tt);
     before = λ l. absurd (omega (arith, l));
     ends = refl;
-    after = begins-all 6 (codes "\n/*d*/b~e") (asked_past (by_law beyond) 0 1 two_comments (text_with (codes "a\n") (codes "//c") (codes "\n/*d*/b~e"))) refl;
+    after = begins-all 6 (codes "\n/*d*/b~e") (asked_past (by_law beyond) 0 1 two_comments (start_of (codes "a\n//c\n/*d*/b~e"))) refl;
     shifted = refl;
     meets = record { known = refl; known_now = refl; value = λ o. refl; over = λ o k. refl; errors = λ o m. refl };
   };
@@ -28,7 +28,7 @@ returns c = λ beyond. record {
     new_go = (refl, tt);
     before = λ l. absurd (omega (arith, l));
     ends = refl;
-    after = begins-all 6 (codes "b/*d*/{c") (asked_past (by_law beyond) 0 4 a_comment (text_with (codes "https:") (codes "~") (codes "b/*d*/{c"))) refl;
+    after = begins-all 6 (codes "b/*d*/{c") (asked_past (by_law beyond) 0 4 a_comment (start_of (codes "https:~b/*d*/{c"))) refl;
     shifted = refl;
     meets = record { known = refl; known_now = refl; value = λ o. refl; over = λ o k. refl; errors = λ o m. refl };
   };
@@ -41,7 +41,7 @@ returns c = λ beyond. record {
     new_go = (refl, (refl, (refl, tt)));
     before = λ l. absurd (omega (arith, l));
     ends = refl;
-    after = begins-all 1 (codes "b") (asked_past (by_law beyond) 0 3 no_trivia (text_with (codes "a") (codes "~") (codes "b"))) refl;
+    after = begins-all 1 (codes "b") (asked_past (by_law beyond) 0 3 no_trivia (start_of (codes "a~b"))) refl;
     shifted = refl;
     meets = record { known = refl; known_now = refl; value = λ o. cc; over = λ o k. ends-alike 1 0 k; errors = λ o. cc };
   };

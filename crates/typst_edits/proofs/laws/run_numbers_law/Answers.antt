@@ -1,6 +1,5 @@
-use Rattle.typst_edits.proofs.InOrder.{in-order-law}
 use Rattle.typst_edits.proofs.RunNumbers.{inner-numbers-law, run-numbers-law}
 use Rattle.typst_edits.proofs.laws.run_numbers_law.Goals as goal
 
 pub returns : goal.returns
-returns c = record { run = run-numbers-law in-order-law; inner = inner-numbers-law in-order-law }
+returns c = record { run = run-numbers-law; inner = inner-numbers-law }

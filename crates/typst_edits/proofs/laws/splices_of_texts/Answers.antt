@@ -1,4 +1,4 @@
-use Rattle.typst_edits.proofs.Cited.{[], codes, refl, arith, by_law, text_with, asked_past}
+use Rattle.typst_edits.proofs.Cited.{[], codes, refl, arith, by_law, start_of, asked_past}
 use Rattle.typst_edits.specs.SpliceExamples.{newline}
 use Rattle.typst_edits.proofs.Begins.{begins-all}
 use Rattle.typst_edits.proofs.laws.splices_of_texts.Goals as goal
@@ -14,7 +14,7 @@ returns c = λ beyond. record {
     new_go = tt;
     before = λ l. absurd (omega (arith, l));
     ends = refl;
-    after = begins-all 1 (codes "\nb") (asked_past (by_law beyond) 0 1 newline (text_with [] (codes "a") (codes "\nb"))) refl;
+    after = begins-all 1 (codes "\nb") (asked_past (by_law beyond) 0 1 newline (start_of (codes "a\nb"))) refl;
     shifted = refl;
     meets = record { known = refl; known_now = refl; value = λ o. refl; over = λ o k. refl; errors = λ o m. refl };
   };

@@ -41,7 +41,7 @@ returns-then-tried-few-clause-none g c = λ ch makes holds e.
     let begun = c.in_ok-read.ensures.first ch speaks (as-many _ _ _ _ few) tt in
     let none : NonePassesOf k ch c.args.root.now n = subst (TakesFirst k ch c.args.root.now c.take_first.new.root c.take_first.new.records.units n) c.in_default.is begun in
     let fewer : n < c.in_ok-few.few.most = omega (arith, c.if-tried-few.true, c.len-tried.ensures, c.in_ok-few.few.items.ok.0) in
-    subst (Every (Refused k ch.front ch.old ch.new ch.rest c.args.root.now)) (are-all _ _ _ _ few fewer) none
+    subst (Every (Refused k ch c.args.root.now)) (are-all _ _ _ _ few fewer) none
 
 -- ---- all
 
@@ -91,7 +91,7 @@ take_first-requires-2-clause-within g c =
 second-asked : {C : Type 0} (k : CharClasses) (c : TextReplacement) (root : Tree) (units : Units) (q : Asked C) → Speaks k c q root units → (r : Tree) → r ≡ root → (u : Units) → u ≡ units
     → (n tried : ℕ) → NonePassesOf k c root n → tried ≤ n → Speaks k c q r u × NonePassesOf k c r tried
 second-asked k c root units q speaks r r_is u u_is n tried none few =
-    (speaks-still k c root units r r_is u u_is q speaks, none-still k c root units r r_is u u_is tried (each-fewer (Refused k c.front c.old c.new c.rest root) (candidates k c root) n tried few none))
+    (speaks-still k c root units r r_is u u_is q speaks, none-still k c root units r r_is u u_is tried (each-fewer (Refused k c root) (candidates k c root) n tried few none))
 
 pub returns-clause-part : goal.returns-clause-part
 returns-clause-part g c = λ ch makes holds.
@@ -122,4 +122,4 @@ returns-clause-none g c = λ ch makes holds e.
     let over = none-of k ch _ _ _ same.0 _ same.1 _ _ _ _ e (c.take_first-2.ensures.first ch asked.0 (as-many _ _ _ _ all) asked.1) in
     let most : c.in_ok-all.all.most ≡ 18446744073709551615 = c.in_ok-all.ensures.whole refl in
     let fits : length c.in_ok-all.all.items.items < c.in_ok-all.all.most = omega (arith, most, c.in_ok-all.all.items.ok.0, c.in_ok-all.all.items.ok.1, c.in_ok-all.all.items.small) in
-    subst (NonePasses k ch) same.0 (subst (Every (Refused k ch.front ch.old ch.new ch.rest c.take_first.new.root)) (are-all _ _ _ _ all fits) over)
+    subst (NonePasses k ch) same.0 (subst (Every (Refused k ch c.take_first.new.root)) (are-all _ _ _ _ all fits) over)

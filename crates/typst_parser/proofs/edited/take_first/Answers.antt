@@ -92,7 +92,7 @@ loop-candidate-preserved g c =
       refused = λ ch speaks first before. (
           let taken = took speaks _ _ first _ got way_is _ _ (inv.serves ch speaks first) c.serving_of-serving.ensures inv.same inv.units _ _ _ _ c.in_ok-end.ensures.taken in
           let here = subst (TakesPlace _ ch _ root c.take_place.new.root c.take_place.new.records.units) c.in_default.is taken.0 in
-          subst (NonePassesOf _ ch root) next (each-next (Refused _ ch.front ch.old ch.new ch.rest root) _ n _ (here-at speaks _ _ first _ got way_is) (inv.refused ch speaks first before) here));
+          subst (NonePassesOf _ ch root) next (each-next (Refused _ ch root) _ n _ (here-at speaks _ _ first _ got way_is) (inv.refused ch speaks first before) here));
       serves = λ ch speaks first. (
           let taken = took speaks _ _ first _ got way_is _ _ (inv.serves ch speaks first) c.serving_of-serving.ensures inv.same inv.units _ _ _ _ c.in_ok-end.ensures.taken in
           or-at k ch root c.args.found.now.path.items d.depth c.take_place.new.serving (subst (λ p. ServesOr k ch root p d.depth c.take_place.new.serving) way_is taken.1));

@@ -66,7 +66,7 @@ returns-in-Ok-Some-clause-decided g c =
     let had = c.self.invariant.records c.if-not-self.false in
     let fits : length now.text < 2 ^ 64 - 1 = omega (arith, c.if-text.false, ap length (c.text-text.ensures ∙ sym c.keep.ensures)) in
     let answer = answer-again k old now (record { start = r.start; old_end = r.end; new_end = c.saturating_sub.result }) h i.records.units had c.text-text.result.now (c.text-text.ensures ∙ sym c.keep.ensures) fits c.reparse.new.records.units c.in-Ok-Some.read c.in-Ok-Some.field-0 c.in-Ok-Some.field-0-is c.in-Ok-Some.ensures.part c.in-Ok-Some.ensures.ordered in
-    subst (λ (s : Held g.row.C.Denot). (s.has_records ≡ true) × (let ch = change_of s.text r c.args.with.now in IsAnswer (g.C.Classes.classes s.classes) ch.front ch.old ch.new ch.rest (candidates (g.C.Classes.classes s.classes) ch s.root) s.root c.reparse.new.root c.in-Ok-Some.read.range)) c.self.view_is
+    subst (λ (s : Held g.row.C.Denot). (s.has_records ≡ true) × (let ch = change_of s.text r c.args.with.now in IsAnswer (g.C.Classes.classes s.classes) ch (candidates (g.C.Classes.classes s.classes) ch s.root) s.root c.reparse.new.root c.in-Ok-Some.read.range)) c.self.view_is
     (c.if-not-self.false, answer)
 
 pub returns-in-Ok-None-clause-decided : goal.returns-in-Ok-None-clause-decided
