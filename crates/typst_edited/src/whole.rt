@@ -154,23 +154,16 @@ fn are_in_order(nodes: &[&SyntaxNode], file: FileId) -> bool {
     true
 }
 
-/// Whether the source finds a node, which begins at a byte, by its span, and its bytes by its number.
-fn finds<C: Classes>(source: &Source<C>, node: &SyntaxNode, start: usize) -> bool {
-    let (Some(found), Some(number)) = (source.find(node.span()), node.span().number()) else {
-        return false;
-    };
-    let range = start..start.saturating_add(node.len());
-    found.get().span() == node.span()
-        && found.kind() == node.kind()
-        && found.range() == range
-        && source.range(number, None) == Some(range)
-}
-
-/// Whether the source finds these nodes, which are all of its tree.
+/// Whether the source finds these nodes, which are all of its tree, by their spans, and their bytes by their numbers.
 fn finds_all<C: Classes>(source: &Source<C>, nodes: &[&SyntaxNode]) -> bool {
     let mut start = 0usize;
     for node in nodes {
-        if !finds(source, node, start) {
+        let (Some(found), Some(number)) = (source.find(node.span()), node.span().number()) else {
+            return false;
+        };
+        let range = start..start.saturating_add(node.len());
+        let is_node = found.get().span() == node.span() && found.kind() == node.kind();
+        if !is_node || found.range() != range || source.range(number, None) != Some(range) {
             return false;
         }
         if node.children().is_empty() {

@@ -15,8 +15,10 @@ pub fn print(alloc: Global, printed: &mut String, text: &str) -> Result<(), Allo
     let Some((least, most, edit)) = limits_of(line) else {
         return printed.push_str("no edit\n");
     };
-    let (whole, part, made) = calls(alloc, text, edit)?;
+    let (whole, _) = calls(alloc, text, Edit::REFUSED)?;
+    let (all, made) = calls(alloc, text, edit)?;
     made.print(printed)?;
+    let part = all.saturating_sub(whole);
     if whole < least || most < part {
         writeln!(printed, "{whole} calls for the source, {part} for the edit")?;
     }
@@ -30,15 +32,8 @@ fn limits_of(line: &str) -> Option<(usize, usize, Edit<'_>)> {
     Some((least.parse().ok()?, most.parse().ok()?, edit_of(edit)?))
 }
 
-/// How often classes are asked for a source, and for an edit of it, with what came of that.
-fn calls(alloc: Global, text: &str, edit: Edit<'_>) -> Result<(usize, usize, Made), AllocError> {
-    let (whole, _) = all_calls(alloc, text, Edit::REFUSED)?;
-    let (all, made) = all_calls(alloc, text, edit)?;
-    Ok((whole, all.saturating_sub(whole), made))
-}
-
 /// How often classes are asked for a source and an edit of it, with what came of that.
-fn all_calls(alloc: Global, text: &str, edit: Edit<'_>) -> Result<(usize, Made), AllocError> {
+fn calls(alloc: Global, text: &str, edit: Edit<'_>) -> Result<(usize, Made), AllocError> {
     let calls = Cell::new(0usize);
     let (_source, made) = edit.source(alloc, text, Counting { calls: &calls })?;
     Ok((calls.get(), made))

@@ -78,26 +78,17 @@ fn print_candidate(
         end,
     } = *candidate;
     printed.push_str(if is_block { "block" } else { "run" })?;
-    let steps = if is_block {
-        depth.saturating_add(1)
-    } else {
-        depth
-    };
-    print_path(printed, path.get(..steps).unwrap_or(path))?;
-    if !is_block {
-        write!(printed, " {from}..{to}")?;
-    }
-    writeln!(printed, " {start}..{end}")
-}
-
-/// Prints a path from the root, step by step.
-fn print_path(printed: &mut String, path: &[usize]) -> Result<(), AllocError> {
+    let steps = depth.saturating_add(usize::from(is_block));
+    let path = path.get(..steps).unwrap_or(path);
     if path.is_empty() {
-        return printed.push_str(" root");
+        printed.push_str(" root")?;
     }
     for (i, step) in path.iter().enumerate() {
         let before = if i == 0 { " " } else { "." };
         write!(printed, "{before}{step}")?;
     }
-    Ok(())
+    if !is_block {
+        write!(printed, " {from}..{to}")?;
+    }
+    writeln!(printed, " {start}..{end}")
 }

@@ -1,25 +1,11 @@
 //! The word `edit-lines`.
 
 use std::alloc::{AllocError, Global};
+use typst_edited::Edit;
 use typst_edited::cli::Lines;
-use typst_edited::{Edit, edit_of};
-use typst_rows::with_line_feeds;
 
-/// Prints the text after an edit of its lines, and below it where these start, as the word `lines` has it. The
-/// first line has the edit's words, and the text comes after that line.
-pub fn print(alloc: Global, printed: &mut String, text: &str) -> Result<(), AllocError> {
-    let Some((words, text)) = text.split_once('\n') else {
-        return printed.push_str("no text\n");
-    };
-    let words = with_line_feeds(alloc, words)?;
-    match edit_of(words.as_str()) {
-        Some(edit) => print_after(alloc, printed, text, edit),
-        None => printed.push_str("no edit\n"),
-    }
-}
-
-/// Prints the lines of a text after an edit.
-fn print_after(
+/// Prints the text after an edit of its lines, and below it where these start, as the word `lines` has it.
+pub fn print_after(
     alloc: Global,
     printed: &mut String,
     text: &str,

@@ -17,18 +17,17 @@ const INSERTIONS: [&str; 21] = [
 const SHORT: usize = 63;
 
 /// Prints how many edits of the text agree, each with each class value: those that put something in at a
-/// place, and those that take a character out. Before that the first that doesn't agree.
-pub fn print(alloc: Global, printed: &mut String, text: &str) -> Result<(), AllocError> {
-    let edits = edits(alloc, text, false)?;
-    let is_short = text.len() <= SHORT;
+/// place, and those that take a character out. Before that the first that doesn't agree. In turn two of three
+/// places have three insertions, the next ones, and not all of them: for texts in which an edit takes long.
+pub fn print(
+    alloc: Global,
+    printed: &mut String,
+    text: &str,
+    is_in_turn: bool,
+) -> Result<(), AllocError> {
+    let edits = edits(alloc, text, is_in_turn)?;
+    let is_short = text.len() <= SHORT && !is_in_turn;
     print_tally(alloc, printed, text, edits.as_slice(), is_short, is_short)
-}
-
-/// Prints what `print` does where two of three places have three insertions, the next ones, and not all of them:
-/// for texts in which an edit takes long.
-pub fn print_in_turn(alloc: Global, printed: &mut String, text: &str) -> Result<(), AllocError> {
-    let edits = edits(alloc, text, true)?;
-    print_tally(alloc, printed, text, edits.as_slice(), false, false)
 }
 
 /// Prints what `print` does of all insertions at some places alone, also by edits in a row. The first line has

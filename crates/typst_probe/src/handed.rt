@@ -72,7 +72,9 @@ fn tree_of(alloc: Global, words: &str) -> Result<SyntaxNode, AllocError> {
     }
     let mut tree = parse(alloc, text, &UnicodeClasses)?;
     if let Some(file) = file_of(form) {
-        tree.numberize(file, 2..1 << 47).map_err(|_| AllocError)?;
+        if tree.numberize(file, 2..1 << 47).is_err() {
+            return Err(AllocError);
+        }
     }
     Ok(tree)
 }

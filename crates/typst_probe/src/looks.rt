@@ -4,7 +4,7 @@ use std::alloc::{AllocError, Global};
 use typst_edited::cli::{SyntaxKind, SyntaxMode, UnicodeClasses};
 use typst_lexer::lexer::token;
 use typst_lines::Scanner;
-use typst_tokens::{Hull, LineEnd};
+use typst_tokens::LineEnd;
 
 /// Prints the tokens of the text as markup. Each has a line with its kind, its range in bytes, and the bytes that
 /// were looked at for it, where `front` and `rear` are the marks before and after the text.
@@ -35,19 +35,15 @@ fn print_token(
     }
     let (name, end) = (read.token.kind.variant_name(), read.after.cursor());
     write!(printed, "{name} {at}..{end} looks ")?;
-    print_look(printed, text, read.hull)?;
-    Ok(end)
-}
-
-/// Prints the end of a line: the bytes from the first to the last place that were looked at.
-fn print_look(printed: &mut String, text: &str, hull: Hull) -> Result<(), AllocError> {
-    match hull.least.checked_sub(1) {
+    match read.hull.least.checked_sub(1) {
         None => printed.push_str("front..")?,
         Some(byte) => write!(printed, "{byte}..")?,
     }
-    if text.len() < hull.reach {
-        return printed.push_str("rear\n");
+    let reach = read.hull.reach;
+    if text.len() < reach {
+        printed.push_str("rear\n")?;
+    } else {
+        writeln!(printed, "{reach}")?;
     }
-    let reach = hull.reach;
-    writeln!(printed, "{reach}")
+    Ok(end)
 }

@@ -65,13 +65,13 @@ fn run(rt: &HostRuntime, alloc: Global) -> anyhow::Result<u8> {
     match words.as_slice() {
         [word, start, end, with] if word.as_str() == "edit-spans" => {
             match Edit::from_words(start.as_str(), end.as_str(), with.as_str()) {
-                Some(edit) => show_edit(rt, alloc, edit),
+                Some(edit) => show(rt, alloc, Asked::Edit(edit)),
                 None => show_usage(rt, USAGE),
             }
         }
         [word, start, end] if word.as_str() == "candidates" => {
             match (start.as_str().parse(), end.as_str().parse()) {
-                (Ok(start), Ok(end)) => show_candidates(rt, alloc, start, end),
+                (Ok(start), Ok(end)) => show(rt, alloc, Asked::Candidates(start, end)),
                 _ => show_usage(rt, USAGE),
             }
         }
@@ -79,25 +79,27 @@ fn run(rt: &HostRuntime, alloc: Global) -> anyhow::Result<u8> {
     }
 }
 
-/// Prints the tree of the text on standard input after an edit.
-fn show_edit(rt: &HostRuntime, alloc: Global, edit: Edit<'_>) -> anyhow::Result<u8> {
-    let text = io::read_to_string(alloc, rt.reader())?;
-    let mut printed = String::new(alloc);
-    edits::print_spans_after(alloc, &mut printed, text.as_str(), edit)?;
-    print!(rt; "{printed}")?;
-    Ok(0)
+/// What is asked by words with numbers.
+#[derive(Clone, Copy)]
+enum Asked<'a> {
+    /// The tree after an edit.
+    Edit(Edit<'a>),
+    /// What may be read again where a range of bytes is replaced.
+    Candidates(usize, usize),
 }
 
-/// Prints what may be read again where a range of bytes of the text on standard input is replaced.
-fn show_candidates(
-    rt: &HostRuntime,
-    alloc: Global,
-    start: usize,
-    end: usize,
-) -> anyhow::Result<u8> {
+/// Prints what is asked about the text on standard input.
+fn show(rt: &HostRuntime, alloc: Global, asked: Asked<'_>) -> anyhow::Result<u8> {
     let text = io::read_to_string(alloc, rt.reader())?;
     let mut printed = String::new(alloc);
-    candidates::print_between(alloc, &mut printed, text.as_str(), start, end)?;
+    match asked {
+        Asked::Edit(edit) => {
+            edits::print_spans_after(alloc, &mut printed, text.as_str(), edit)?;
+        }
+        Asked::Candidates(start, end) => {
+            candidates::print_between(alloc, &mut printed, text.as_str(), start, end)?;
+        }
+    }
     print!(rt; "{printed}")?;
     Ok(0)
 }

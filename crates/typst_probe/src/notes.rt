@@ -18,24 +18,19 @@ pub fn print(alloc: Global, printed: &mut String, text: &str) -> Result<(), Allo
     print_looks(printed, noted.hull.reach.max(reach), noted.hull.least)
 }
 
-/// Prints the line of a note, with where all looks before it end.
+/// Prints the line of a note, with where all looks before it end. What begins or ends comes first: of a piece also
+/// whether a line starts there, and in how many brackets it stands.
 fn print_note(printed: &mut String, note: &Note, reach: usize) -> Result<(), AllocError> {
-    print_mark(printed, note.mark)?;
+    match note.mark {
+        Mark::Piece(true, brackets) => write!(printed, "Piece line {brackets}")?,
+        Mark::Piece(false, brackets) => write!(printed, "Piece inline {brackets}")?,
+        Mark::Opens(Block::Code) => printed.push_str("Opens Code")?,
+        Mark::Opens(Block::Content) => printed.push_str("Opens Content")?,
+        Mark::Closes => printed.push_str("Closes")?,
+    }
     let (before, start, levels) = (note.before, note.start, note.levels);
     write!(printed, " {before}..{start} levels {levels}")?;
     print_looks(printed, reach, note.least)
-}
-
-/// Prints what begins or ends: of a piece also whether a line starts there, and in how many brackets
-/// it stands.
-fn print_mark(printed: &mut String, mark: Mark) -> Result<(), AllocError> {
-    match mark {
-        Mark::Piece(true, brackets) => write!(printed, "Piece line {brackets}"),
-        Mark::Piece(false, brackets) => write!(printed, "Piece inline {brackets}"),
-        Mark::Opens(Block::Code) => printed.push_str("Opens Code"),
-        Mark::Opens(Block::Content) => printed.push_str("Opens Content"),
-        Mark::Closes => printed.push_str("Closes"),
-    }
 }
 
 /// Prints the end of a line: where looks end and where they begin, if there are any.

@@ -25,7 +25,7 @@ fn call_of(text: &str) -> Option<(Call, u32)> {
     Some((call_named(name)?, first.parse().ok()?))
 }
 
-/// Makes a call of a subject and its twin.
+/// Makes a call of a subject and its twin. Prints where it was refused, and whether its subject isn't as before then.
 fn print_called(
     alloc: Global,
     printed: &mut String,
@@ -36,7 +36,10 @@ fn print_called(
     let answer = match subject.take(alloc, call) {
         Ok(answer) => answer,
         Err(AllocError) => {
-            print_refused(alloc, printed, subject, twin)?;
+            printed.push_str("refused\n")?;
+            if !subject.is_same(alloc, twin)? {
+                printed.push_str("changed\n")?;
+            }
             subject.take(alloc, call)?
         }
     };
@@ -48,20 +51,6 @@ fn print_called(
         "another answer"
     };
     writeln!(printed, "{answered}")
-}
-
-/// Prints that a call was refused, and whether its subject isn't as before.
-fn print_refused(
-    alloc: Global,
-    printed: &mut String,
-    subject: &Subject,
-    twin: &Subject,
-) -> Result<(), AllocError> {
-    printed.push_str("refused\n")?;
-    if subject.is_same(alloc, twin)? {
-        return Ok(());
-    }
-    printed.push_str("changed\n")
 }
 
 /// How a subject stands beside its twin after a call, and after one more edit.

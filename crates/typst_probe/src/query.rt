@@ -1,18 +1,14 @@
 //! Calls that take no memory. What several answer is summed up as a number, the same for the same answers.
 
-ghost use Rattle.std.specs.Prelude.{◌≡◌};
-ghost use Rattle.std.specs.List.{list_all};
-ghost use Rattle.std.specs.Str.{chars};
-ghost use Rattle.typst_lines.specs.Classes.{in_line};
-
 use std::alloc::Global;
 use std::ops::Range;
+use typst_fakes::first_cluster;
 use typst_flat::{kind_count, kind_of_code};
 use typst_lines::{
     Classes, MathClass, is_id_continue, is_id_start, is_ident, is_valid_label_literal_id,
 };
 use typst_parser::{
-    Assoc, BinOp, Diagnostic, FileId, Hint, Lines, LinkedNode, Severity, Source, Span, SpanNumber,
+    Assoc, BinOp, Diagnostic, FileId, Lines, LinkedNode, Severity, Source, Span, SpanNumber,
     SubRange, SyntaxKind, SyntaxNode, SyntaxSet, Tag, UnOp, UnicodeClasses, highlight, is_newline,
     is_ordered, set,
 };
@@ -48,38 +44,31 @@ fn more_range(sum: usize, range: Option<Range<usize>>) -> usize {
     }
 }
 
-/// `text`, `len_bytes`, `len_utf16`, `len_lines`, `line`, `byte_to_line`, `byte_to_column`, `byte_to_utf16`,
-/// `byte_to_line_column`, `utf16_to_byte`, `line_to_byte`, `line_to_range`, `line_column_to_byte`, and
-/// `replacement_range` of another text.
+/// `text`, `len_bytes`, `len_utf16`, `len_lines`, and for each number of a byte, of a UTF-16 unit or of a line
+/// `line`, `byte_to_line`, `byte_to_column`, `byte_to_utf16`, `byte_to_line_column`, `utf16_to_byte`,
+/// `line_to_byte`, `line_to_range` and `line_column_to_byte`; and `replacement_range` of another text.
 pub fn of_lines(lines: &Lines<String>, other: &str) -> usize {
     let mut sum = more(lines.text().len(), lines.len_bytes());
     sum = more(more(sum, lines.len_utf16()), lines.len_lines());
     for place in 0..lines.len_bytes() {
-        sum = of_place(sum, lines, place);
+        let answered = [
+            lines.byte_to_line(place),
+            lines.byte_to_column(place),
+            lines.byte_to_utf16(place),
+            lines.utf16_to_byte(place),
+            lines.line_to_byte(place),
+            lines.line_column_to_byte(place, 1),
+        ];
+        sum = more_range(more_of(sum, &answered), lines.line_to_range(place));
+        if let Some((line, column)) = lines.byte_to_line_column(place) {
+            sum = more(more(sum, line), column);
+        }
+        if let Some(line) = lines.line(place) {
+            sum = more(more(sum, line.byte_idx()), line.utf16_idx());
+        }
     }
     match lines.replacement_range(other) {
         Some((front, end)) => more(more(sum, front), end),
-        None => sum,
-    }
-}
-
-/// What lines answer for a number: of a byte, of a UTF-16 unit, and of a line.
-fn of_place(sum: usize, lines: &Lines<String>, place: usize) -> usize {
-    let answered = [
-        lines.byte_to_line(place),
-        lines.byte_to_column(place),
-        lines.byte_to_utf16(place),
-        lines.utf16_to_byte(place),
-        lines.line_to_byte(place),
-        lines.line_column_to_byte(place, 1),
-    ];
-    let sum = more_range(more_of(sum, &answered), lines.line_to_range(place));
-    let sum = match lines.byte_to_line_column(place) {
-        Some((line, column)) => more(more(sum, line), column),
-        None => sum,
-    };
-    match lines.line(place) {
-        Some(line) => more(more(sum, line.byte_idx()), line.utf16_idx()),
         None => sum,
     }
 }
@@ -138,43 +127,31 @@ fn of_leaf(sum: usize, root: LinkedNode<'_>, leaf: LinkedNode<'_>) -> usize {
         leaf.parent_kind() == Some(SyntaxKind::Markup),
         leaf.next_sibling_kind() == Some(SyntaxKind::Space),
         highlight(&leaf) == Some(Tag::Strong),
+        leaf.get().is_empty(),
     ];
-    let sum = more_if(sum, &answered);
-    let sum = more_if(sum, &[leaf.get().is_empty()]);
-    let sum = of_neighbour(sum, leaf.prev_leaf());
-    let sum = of_neighbour(sum, leaf.next_sibling());
-    let sum = of_neighbour(sum, root.leaf_at(leaf.offset()));
-    let sum = of_parent(sum, leaf.parent());
-    of_found(sum, root, leaf.get().span())
-}
-
-/// Where a node begins.
-fn of_neighbour(sum: usize, node: Option<LinkedNode<'_>>) -> usize {
-    match node {
-        Some(node) => more(sum, node.offset()),
-        None => sum,
+    let mut sum = more_if(sum, &answered);
+    let span = leaf.get().span();
+    let begins = [
+        start_of(leaf.prev_leaf()),
+        start_of(leaf.next_sibling()),
+        start_of(root.leaf_at(leaf.offset())),
+        start_of(root.find(span)),
+    ];
+    sum = more_of(sum, &begins);
+    if let Some(number) = span.number() {
+        sum = more_of(sum, &[start_of(root.find_number(number))]);
     }
-}
-
-/// Where each child of a node begins.
-fn of_parent(sum: usize, node: Option<LinkedNode<'_>>) -> usize {
-    let Some(node) = node else {
-        return sum;
-    };
-    let mut sum = sum;
-    for child in node.children() {
-        sum = more(sum, child.offset());
+    if let Some(parent) = leaf.parent() {
+        for child in parent.children() {
+            sum = more(sum, child.offset());
+        }
     }
     sum
 }
 
-/// Where the nodes are that are found by a span and by its number.
-fn of_found(sum: usize, root: LinkedNode<'_>, span: Span) -> usize {
-    let sum = of_neighbour(sum, root.find(span));
-    match span.number() {
-        Some(number) => of_neighbour(sum, root.find_number(number)),
-        None => sum,
-    }
+/// Where a node begins.
+fn start_of(node: Option<LinkedNode<'_>>) -> Option<usize> {
+    Some(node?.offset())
 }
 
 /// `len`, `descendants`, `children`, `kind`, `is_empty`, `is_inner`, `leaf_text`, `span`, `diagnostics`,
@@ -231,19 +208,15 @@ pub fn of_remarks(tree: &SyntaxNode) -> usize {
     sum
 }
 
+/// What a remark answers, and `sub_range` and `message` of each of its hints.
 fn of_remark(sum: usize, remark: &Diagnostic) -> usize {
     let is_error = remark.severity() == Severity::Error;
     let sum = more(more_if(sum, &[is_error]), remark.message().len());
     let mut sum = more_range(sum, bytes_of(remark.sub_range()));
     for hint in remark.hints() {
-        sum = of_hint(sum, hint);
+        sum = more_range(more(sum, hint.message().len()), bytes_of(hint.sub_range()));
     }
     sum
-}
-
-/// `sub_range` and `message` of a hint.
-fn of_hint(sum: usize, hint: &Hint) -> usize {
-    more_range(more(sum, hint.message().len()), bytes_of(hint.sub_range()))
 }
 
 /// `start` and `end` of a range within a node.
@@ -252,53 +225,37 @@ fn bytes_of(range: Option<SubRange>) -> Option<Range<usize>> {
     Some(range.start()..range.end())
 }
 
-/// Of each kind what [`of_kind`] has.
+/// Of each kind `name`, its seven tests, sets with and without it, and `from_kind`, `precedence` and `assoc` of its
+/// operators.
 pub fn of_kinds() -> usize {
     let mut sum = 0;
-    for place in 0..kind_count() {
-        if let Some(kind) = kind_at(place) {
-            sum = of_kind(sum, kind);
+    for code in 0..u32::try_from(kind_count()).unwrap_or(u32::MAX) {
+        let Some(kind) = kind_of_code(code) else {
+            return sum;
+        };
+        let set = SyntaxSet::new().add(kind);
+        let answered = [
+            kind.is_trivia(),
+            kind.is_error(),
+            kind.is_keyword(),
+            kind.is_grouping(),
+            kind.is_terminator(),
+            kind.is_block(),
+            kind.is_hash_expr(),
+            set.contains(kind),
+            set.remove(kind) == SyntaxSet::new(),
+            set::CODE_EXPR.union(set).contains(kind),
+        ];
+        sum = more_if(more(sum, kind.name().len()), &answered);
+        if let Some(operator) = BinOp::from_kind(kind) {
+            let binds_left = operator.assoc() == Assoc::Left;
+            sum = more_if(more(sum, usize::from(operator.precedence())), &[binds_left]);
+        }
+        if let Some(operator) = UnOp::from_kind(kind) {
+            sum = more(sum, usize::from(operator.precedence()));
         }
     }
     sum
-}
-
-/// The kind at a place in the order of definitions.
-fn kind_at(place: usize) -> Option<SyntaxKind> {
-    kind_of_code(u32::try_from(place).ok()?)
-}
-
-/// `name`, the seven tests of a kind, its operators, and sets with and without it.
-fn of_kind(sum: usize, kind: SyntaxKind) -> usize {
-    let set = SyntaxSet::new().add(kind);
-    let answered = [
-        kind.is_trivia(),
-        kind.is_error(),
-        kind.is_keyword(),
-        kind.is_grouping(),
-        kind.is_terminator(),
-        kind.is_block(),
-        kind.is_hash_expr(),
-        set.contains(kind),
-        set.remove(kind) == SyntaxSet::new(),
-        set::CODE_EXPR.union(set).contains(kind),
-    ];
-    of_operators(more_if(more(sum, kind.name().len()), &answered), kind)
-}
-
-/// `from_kind`, `precedence` and `assoc` of operators.
-fn of_operators(sum: usize, kind: SyntaxKind) -> usize {
-    let sum = match BinOp::from_kind(kind) {
-        Some(operator) => {
-            let binds_left = operator.assoc() == Assoc::Left;
-            more_if(more(sum, usize::from(operator.precedence())), &[binds_left])
-        }
-        None => sum,
-    };
-    match UnOp::from_kind(kind) {
-        Some(operator) => more(sum, usize::from(operator.precedence())),
-        None => sum,
-    }
 }
 
 /// `LIST`, `tm_scope` and `css_class`.
@@ -330,44 +287,24 @@ pub fn of_spans() -> usize {
 /// `is_xid_start`, `is_xid_continue`, `is_alphabetic`, `is_alphanumeric`, `is_numeric`, `is_word` and `math_class`
 /// of each character of a text, and `cluster` of each of its lines.
 pub fn of_classes(text: &str) -> usize {
+    let classes = UnicodeClasses;
     let mut sum = 0;
     for character in text.chars() {
-        sum = of_class(sum, character);
+        let answered = [
+            classes.is_xid_start(character),
+            classes.is_xid_continue(character),
+            classes.is_alphabetic(character),
+            classes.is_alphanumeric(character),
+            classes.is_numeric(character),
+            classes.is_word(character),
+            classes.math_class(character) == Some(MathClass::Opening),
+        ];
+        sum = more_if(sum, &answered);
     }
     for line in text.split('\n') {
-        sum = more_of(sum, &[first_cluster(line)]);
+        sum = more_of(sum, &[first_cluster(&classes, line)]);
     }
     sum
-}
-
-/// What the classes of Unicode answer for a character.
-fn of_class(sum: usize, character: char) -> usize {
-    let classes = UnicodeClasses;
-    let answered = [
-        classes.is_xid_start(character),
-        classes.is_xid_continue(character),
-        classes.is_alphabetic(character),
-        classes.is_alphanumeric(character),
-        classes.is_numeric(character),
-        classes.is_word(character),
-        classes.math_class(character) == Some(MathClass::Opening),
-    ];
-    more_if(sum, &answered)
-}
-
-/// How many bytes the first cluster of a line has that isn't empty.
-fn first_cluster(line: &str) -> Option<usize> {
-    if line.is_empty() || !is_line(line) {
-        return None;
-    }
-    Some(UnicodeClasses.cluster(line))
-}
-
-/// Whether no character is a newline character.
-fn is_line(line: &str) -> bool
-    ensures { result ≡ list_all in_line (chars line.now) }
-{
-    line.chars().all(|c| !is_newline(c))
 }
 
 /// `is_newline`, `is_id_start` and `is_id_continue` of each character of a text, `is_ident` and

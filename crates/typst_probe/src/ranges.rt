@@ -6,13 +6,18 @@ use typst_parser::{Source, Span, SpanNumber, SubRange, SyntaxNode, UnicodeClasse
 
 /// Prints which bytes of a text are those within a node, for each of the first lines, which have the place of the node
 /// among those of the tree, the first of which is 0, and where the bytes start and end in it. The text comes after an
-/// empty line.
+/// empty line. Before that where the source isn't of the first file, or finds something for a span without a number, or
+/// bytes for the number 2, which no node of a short text has.
 pub fn print(alloc: Global, printed: &mut String, text: &str) -> Result<(), AllocError> {
     let Some((lines, text)) = text.split_once("\n\n") else {
         return printed.push_str("no text\n");
     };
     let source = source_of(alloc, text, UnicodeClasses)?;
-    if !is_of_first_file(&source) {
+    let knows_number = match SpanNumber::new(2) {
+        Some(number) => source.range(number, None).is_some(),
+        None => true,
+    };
+    if source.id().get() != 1 || source.find(Span::detached()).is_some() || knows_number {
         printed.push_str("another file\n")?;
     }
     let nodes = nodes(alloc, source.root())?;
@@ -33,16 +38,6 @@ fn print_ranges(
         }
     }
     Ok(())
-}
-
-/// Whether a source is of the first file, and finds nothing for a span without a number, and no bytes for the number 2,
-/// which no node of a short text has.
-fn is_of_first_file(source: &Source<UnicodeClasses>) -> bool {
-    let is_unknown = match SpanNumber::new(2) {
-        Some(number) => source.range(number, None).is_none(),
-        None => false,
-    };
-    source.id().get() == 1 && source.find(Span::detached()).is_none() && is_unknown
 }
 
 /// Which bytes of the text are those that a line names.

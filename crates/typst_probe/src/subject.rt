@@ -71,16 +71,6 @@ impl Kept {
             heading,
         })
     }
-
-    /// Whether what is made of a small tree or text is what is written.
-    fn has(&self, alloc: Global, reading: Reading) -> Result<bool, AllocError> {
-        match reading {
-            Reading::Walk(walk) => written::has_visits(alloc, walk, &self.heading),
-            Reading::Stretches => written::has_stretches(alloc, &self.heading),
-            Reading::Newlines => written::has_lines(alloc),
-            Reading::Link => written::has_link(alloc),
-        }
-    }
 }
 
 /// The tree of a source, with a warning.
@@ -309,48 +299,49 @@ impl Subject {
     /// A call that makes something of the tree, or of a text, and makes it of a small one, too, for which it is
     /// written what has to come.
     fn call_of_reading(&self, alloc: Global, reading: Reading) -> Answer {
-        if self.kept.has(alloc, reading)? {
-            Ok(0..self.count(alloc, reading)?)
-        } else {
-            Ok(WRONG)
-        }
-    }
-
-    /// How much is made of the tree, or of the other text.
-    fn count(&self, alloc: Global, reading: Reading) -> Result<usize, AllocError> {
+        let (kept, tree) = (&self.kept, &self.tree);
         match reading {
-            Reading::Walk(walk) => walk.count(alloc, &self.tree),
-            Reading::Stretches => Ok(tag_stretches(alloc, &self.tree)?.len()),
-            Reading::Newlines => Ok(split_newlines(alloc, self.kept.other.as_str())?.len()),
-            Reading::Link => Ok(0),
+            Reading::Walk(walk) => {
+                let is_right = written::has_visits(alloc, walk, &kept.heading)?;
+                Ok(if_right(is_right, walk.count(alloc, tree)?))
+            }
+            Reading::Stretches => {
+                let is_right = written::has_stretches(alloc, &kept.heading)?;
+                Ok(if_right(is_right, tag_stretches(alloc, tree)?.len()))
+            }
+            Reading::Newlines => {
+                let is_right = written::has_lines(alloc)?;
+                let lines = split_newlines(alloc, kept.other.as_str())?;
+                Ok(if_right(is_right, lines.len()))
+            }
+            Reading::Link => Ok(if_right(written::has_link(alloc)?, 0)),
         }
     }
 
-    /// What calls answer that take no memory.
+    /// What calls answer that take no memory: whether they are right, or the sum of what they answer.
     fn answered(&mut self, alloc: Global, query: Query) -> Range<usize> {
         match query {
             Query::EqualText => if_right(self.keeps_equal_text(), 0),
-            Query::LinesCompare => if_right(self.compares_lines(), 0),
+            Query::LinesCompare => {
+                let is_right = compared::compare(
+                    &self.lines,
+                    self.source.lines(),
+                    &self.kept.lines,
+                );
+                if_right(is_right, 0)
+            }
             Query::LinesFrom => if_right(compared::are_found(&self.lines), 0),
-            query => 0..self.summed(alloc, query),
-        }
-    }
-
-    /// The sum of what several calls answer.
-    fn summed(&mut self, alloc: Global, query: Query) -> usize {
-        match query {
-            Query::EqualText | Query::LinesCompare | Query::LinesFrom => 0,
-            Query::Lines => query::of_lines(&self.lines, self.kept.other.as_str()),
-            Query::Source => query::of_source(&self.source),
-            Query::Leaves => query::of_leaves(&self.tree),
-            Query::Nodes => query::of_nodes(&self.tree, self.source.root()),
-            Query::Changes => query::of_changes(alloc, &mut self.tree),
-            Query::Remarks => query::of_remarks(&self.tree),
-            Query::Kinds => query::of_kinds(),
-            Query::Tags => query::of_tags(),
-            Query::Spans => query::of_spans(),
-            Query::Characters => query::of_characters(self.kept.other.as_str()),
-            Query::Classes => query::of_classes(self.kept.other.as_str()),
+            Query::Lines => 0..query::of_lines(&self.lines, self.kept.other.as_str()),
+            Query::Source => 0..query::of_source(&self.source),
+            Query::Leaves => 0..query::of_leaves(&self.tree),
+            Query::Nodes => 0..query::of_nodes(&self.tree, self.source.root()),
+            Query::Changes => 0..query::of_changes(alloc, &mut self.tree),
+            Query::Remarks => 0..query::of_remarks(&self.tree),
+            Query::Kinds => 0..query::of_kinds(),
+            Query::Tags => 0..query::of_tags(),
+            Query::Spans => 0..query::of_spans(),
+            Query::Characters => 0..query::of_characters(self.kept.other.as_str()),
+            Query::Classes => 0..query::of_classes(self.kept.other.as_str()),
         }
     }
 
@@ -360,11 +351,6 @@ impl Subject {
             matches!(self.source.replace(self.lines.text()), Ok(read) if read == (0..0));
         let keeps_lines = matches!(self.lines.replace(self.source.text()), Ok(false));
         keeps_source && keeps_lines
-    }
-
-    /// Whether lines are equal where their texts are.
-    fn compares_lines(&self) -> bool {
-        compared::compare(&self.lines, self.source.lines(), &self.kept.lines)
     }
 
     /// Whether another one has the same text, lines and trees, spans too, and what was made is the same.

@@ -39,7 +39,10 @@ impl Walk {
     ) -> Result<bool, AllocError> {
         let mut walk = tree.preorder(alloc);
         for place in places {
-            if !is_at(self.next(&mut walk)?, *place) {
+            let Some(visit) = self.next(&mut walk)? else {
+                return Ok(false);
+            };
+            if (visit.node.kind(), visit.offset, visit.depth) != *place {
                 return Ok(false);
             }
         }
@@ -53,15 +56,5 @@ impl Walk {
             Walk::Marked => walk.next_marked(),
             Walk::Diagnosed => walk.next_diagnosed(),
         }
-    }
-}
-
-/// Whether there is a visit, and it is at a place.
-fn is_at(visit: Option<Visit<'_>>, (kind, offset, depth): Place) -> bool {
-    match visit {
-        Some(visit) => {
-            visit.node.kind() == kind && visit.offset == offset && visit.depth == depth
-        }
-        None => false,
     }
 }

@@ -35,7 +35,7 @@ const MARKED: &[Place] = &[
     (SyntaxKind::Error, 7, 2),
 ];
 
-/// Those that have one themselves.
+/// Nodes with a warning or an error of their own.
 const DIAGNOSED: &[Place] = &[(SyntaxKind::Emph, 4, 1), (SyntaxKind::Error, 7, 2)];
 
 /// The bytes of the leaves of the heading, and the tag of each.
@@ -61,15 +61,11 @@ const LINKED: (&str, &str) = ("https://a.b/(c)[d](e. f", "https://a.b/(c)[d](e")
 /// Whether a walk comes to its nodes: through the tree of the heading where it comes to all, and else through that
 /// of the faulty text.
 pub fn has_visits(alloc: Global, walk: Walk, heading: &SyntaxNode) -> Result<bool, AllocError> {
-    match walk {
-        Walk::Whole => walk.has(alloc, heading, VISITS),
-        Walk::Marked => has_faulty(alloc, walk, MARKED),
-        Walk::Diagnosed => has_faulty(alloc, walk, DIAGNOSED),
-    }
-}
-
-/// Whether a walk through the tree of the faulty text comes to these nodes.
-fn has_faulty(alloc: Global, walk: Walk, places: &[Place]) -> Result<bool, AllocError> {
+    let places = match walk {
+        Walk::Whole => return walk.has(alloc, heading, VISITS),
+        Walk::Marked => MARKED,
+        Walk::Diagnosed => DIAGNOSED,
+    };
     let faulty = parse(alloc, FAULTY, &UnicodeClasses)?;
     walk.has(alloc, &faulty, places)
 }
@@ -82,20 +78,13 @@ pub fn has_stretches(alloc: Global, heading: &SyntaxNode) -> Result<bool, AllocE
 
 fn are_stretches(found: &[Tagged]) -> bool {
     let mut rest = found.iter();
-    for wanted in &STRETCHES {
-        if !is_stretch(rest.next(), *wanted) {
-            return false;
+    for (start, end, tag) in &STRETCHES {
+        match rest.next() {
+            Some(stretch) if stretch.range == (*start..*end) && stretch.tag == Some(*tag) => {}
+            _ => return false,
         }
     }
     rest.next().is_none()
-}
-
-/// Whether there is a stretch, and it is the one that is wanted.
-fn is_stretch(stretch: Option<&Tagged>, (start, end, tag): (usize, usize, Tag)) -> bool {
-    match stretch {
-        Some(stretch) => stretch.range == (start..end) && stretch.tag == Some(tag),
-        None => false,
-    }
 }
 
 /// Whether a text is split at its line ends.

@@ -5,23 +5,23 @@ use std::ops::Range;
 use typst_features::{
     Name, NameKind, Named, OccurrenceKind, Role, binding_of, name_roles, named_at, names,
 };
-use typst_grammar::parse;
 use typst_highlight::tag_stretches;
-use typst_lines::UnicodeClasses;
 use typst_tree::SyntaxNode;
 
-/// The names of a text: a line for each with what it does, its range and, where that is known, the range of the
+/// Shows the names of a text: a line for each with what it does, its range and, where that is known, the range of the
 /// binding that it means. What is bound by the table of scopes or by that of contexts, and not by the other one, has
 /// a line below.
-pub fn meanings(alloc: Global, text: &str) -> Result<String, AllocError> {
-    let root = parse(alloc, text, &UnicodeClasses)?;
-    let names = names(alloc, &root)?;
-    let mut shown = String::new(alloc);
+pub fn meanings(
+    alloc: Global,
+    shown: &mut String,
+    root: &SyntaxNode,
+    text: &str,
+) -> Result<(), AllocError> {
+    let names = names(alloc, root)?;
     for index in 0..names.len() {
-        show_meaning(&mut shown, text, &names, index)?;
+        show_meaning(shown, text, &names, index)?;
     }
-    show_unlike(alloc, &mut shown, &root, &names)?;
-    Ok(shown)
+    show_unlike(alloc, shown, root, &names)
 }
 
 /// Shows which bytes only one of the two tables has as bound.
@@ -35,7 +35,11 @@ fn show_unlike(
     let roles = name_roles(alloc, root)?;
     for (stretch, role) in tagged.iter().zip(roles.iter()) {
         let Range { start, end } = stretch.range;
-        if is_bound(names, start) != is_declared(*role) {
+        let is_declared = matches!(
+            *role,
+            Some(Role::Variable | Role::Function | Role::Parameter | Role::Alias)
+        );
+        if is_bound(names, start) != is_declared {
             writeln!(shown, "unlike {start}..{end}")?;
         }
     }
@@ -52,14 +56,6 @@ fn is_bound(names: &[Name], start: usize) -> bool {
         }
     }
     false
-}
-
-/// Whether a name is bound by the table of contexts.
-fn is_declared(role: Option<Role>) -> bool {
-    match role {
-        Some(Role::Variable | Role::Function | Role::Parameter | Role::Alias) => true,
-        _ => false,
-    }
 }
 
 /// Shows the line of a name.
@@ -86,7 +82,8 @@ fn show_meaning(
         let until = name.until;
         return writeln!(shown, " up to {until}");
     }
-    match binding_of(text, names, index).and_then(|binding| names.get(binding)) {
+    let binding = binding_of(text, names, index).unwrap_or(names.len());
+    match names.get(binding) {
         Some(binding) => {
             let Range { start, end } = binding.range;
             writeln!(shown, " of {start}..{end}")
@@ -95,21 +92,9 @@ fn show_meaning(
     }
 }
 
-/// What is named at bytes of a text, which the first line names: a line for each byte, with the range of the name
-/// and all its occurrences, and whether it can be renamed.
-pub fn occurring(alloc: Global, text: &str) -> Result<String, AllocError> {
-    let (bytes, text) = text.split_once('\n').unwrap_or((text, ""));
-    let root = parse(alloc, text, &UnicodeClasses)?;
-    let mut shown = String::new(alloc);
-    for byte in bytes.split(' ') {
-        write!(shown, "{byte}:")?;
-        show_named(alloc, &mut shown, &root, text, byte.parse().unwrap_or(0))?;
-    }
-    Ok(shown)
-}
-
-/// Shows the rest of the line of a byte.
-fn show_named(
+/// Shows the rest of a line with what is named at a byte: the range of the name and all its occurrences, and where a
+/// rename puts the new name.
+pub fn occurrences(
     alloc: Global,
     shown: &mut String,
     root: &SyntaxNode,

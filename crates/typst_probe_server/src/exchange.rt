@@ -113,29 +113,23 @@ impl Session {
             return Some("");
         }
         let frames = written.strip_prefix(HEAD)?;
-        body_of(frames.split_once(HEAD).map_or(frames, |(first, _)| first))
+        let (first, _) = frames.split_once(HEAD).unwrap_or((frames, ""));
+        body_of(first)
     }
 
     /// Whether the person is warned about the message of a number, and nothing is reported after that except that
     /// documents have no errors and warnings.
     pub fn tells_loss(&self, number: usize) -> bool {
-        let Some((_, rest)) = self
-            .written(number)
-            .and_then(|written| written.split_once(WARNING))
-        else {
+        let written = self.written(number).unwrap_or("");
+        let Some((_, rest)) = written.split_once(WARNING) else {
             return false;
         };
         for frame in rest.split(HEAD).skip(1) {
-            if !body_of(frame).is_some_and(|body| body.ends_with(NO_PROBLEMS)) {
+            if !body_of(frame).unwrap_or("").ends_with(NO_PROBLEMS) {
                 return false;
             }
         }
         true
-    }
-
-    /// What the message of a number is answered.
-    pub fn told(&self, number: usize) -> &str {
-        self.body(number).map_or("", told)
     }
 
     /// Whether nothing was written while so many frames were begun.

@@ -8,6 +8,7 @@ mod offered;
 mod refused;
 mod sessions;
 mod shown;
+mod tokens;
 mod word;
 
 use std::alloc::Global;

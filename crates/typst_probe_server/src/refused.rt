@@ -35,11 +35,6 @@ impl<'a> Message<'a> {
         }
     }
 
-    /// Whether it is a request.
-    fn is_request(self) -> bool {
-        matches!(self.effect, "begins" | "ends" | "looks")
-    }
-
     /// The number of the message whose answer is as good as that to this one: all tokens, which are asked for
     /// after their changes, are as good as those, and what begins or ends a session, as it does twice, does
     /// so the second time where the first was refused.
@@ -196,8 +191,13 @@ impl<'a> Client<'a> {
             }
             number = number.saturating_add(1);
         }
+        for subject in &self.subjects {
+            if subject.stand == "before" {
+                return false;
+            }
+        }
         let is_framed = session.is_silent(0) && session.is_silent(number.saturating_add(1));
-        self.is_over() && is_framed && session.status == 0
+        is_framed && session.status == 0
     }
 
     /// Whether something may be heard about a message. What is heard without an identifier may be about each
@@ -221,16 +221,6 @@ impl<'a> Client<'a> {
         self.was_refused = self.was_refused || is_refused;
         is_known && !is_again
     }
-
-    /// Whether it has begun and ended.
-    fn is_over(&self) -> bool {
-        for subject in &self.subjects {
-            if subject.stand == "before" {
-                return false;
-            }
-        }
-        true
-    }
 }
 
 /// What is heard about the message of a number: `nothing`, what is `expected`, that memory was `refused` for
@@ -252,12 +242,13 @@ fn heard(clean: &Session, session: &Session, number: usize, message: Message<'_>
         return "nameless";
     }
     let tells = told(body);
-    let is_expected = tells == clean.told(number)
-        || tells == clean.told(message.substitute(number));
-    if message.is_request() {
-        return response(number, body, is_expected).unwrap_or("other");
+    let is_expected = tells == told(clean.body(number).unwrap_or(""))
+        || tells == told(clean.body(message.substitute(number)).unwrap_or(""));
+    match message.effect {
+        "begins" | "ends" | "looks" => response(number, body, is_expected).unwrap_or("other"),
+        _ if is_expected => "expected",
+        _ => "other",
     }
-    if is_expected { "expected" } else { "other" }
 }
 
 /// What is heard in the response to the request of a number: an error, or what is expected.
@@ -267,20 +258,15 @@ fn response(number: usize, body: &str, is_expected: bool) -> Option<&'static str
     if id.parse::<usize>() != Ok(number) {
         return None;
     }
-    match rest.strip_prefix("\"error\":{\"code\":") {
-        Some(error) => Some(error_of(error.split_once(',')?.0)),
-        None if is_expected => Some("expected"),
-        None => None,
-    }
-}
-
-/// What an error says, by the code.
-fn error_of(code: &str) -> &'static str {
-    match code {
+    let Some(error) = rest.strip_prefix("\"error\":{\"code\":") else {
+        return is_expected.then_some("expected");
+    };
+    let (code, _) = error.split_once(',')?;
+    Some(match code {
         "-32603" => "refused",
         "-32801" => "lost",
         "-32602" => "not-open",
         "-32600" => "not-now",
         _ => "other",
-    }
+    })
 }

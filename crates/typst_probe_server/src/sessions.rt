@@ -49,19 +49,14 @@ impl Session {
         Session::of(alloc, errors, input, Room::ample(pace))
     }
 
-    /// What it wrote.
-    fn written(&self) -> &[u8] {
-        self.output.taken()
-    }
-
     /// Whether it wrote what another one wrote, and ended as that did.
     fn is_same(&self, other: &Session) -> bool {
-        self.status == other.status && self.written() == other.written()
+        self.status == other.status && self.output.taken() == other.output.taken()
     }
 
     /// What it wrote, as text.
     fn text(&self) -> &str {
-        str::from_utf8(self.written()).unwrap_or("")
+        str::from_utf8(self.output.taken()).unwrap_or("")
     }
 }
 
@@ -163,10 +158,11 @@ fn is_cut_off(alloc: Global, given: &[u8], before: &Session) -> bool {
 
 /// The least room with which a session doesn't end with status 1 and with all the answers up to there.
 fn unlike_full(alloc: Global, sent: &[u8], whole: &Session) -> Option<usize> {
-    for room in 0..whole.written().len() {
+    let answers = whole.output.taken();
+    for room in 0..answers.len() {
         let input = Reader::ending(sent, Pace::Whole);
         let session = Session::of(alloc, SHOWN, input, Room::of(room, Pace::Whole));
-        if session.status != 1 || whole.written().get(..room) != Some(session.written()) {
+        if session.status != 1 || answers.get(..room) != Some(session.output.taken()) {
             return Some(room);
         }
     }

@@ -99,7 +99,7 @@ impl<W: RowWord> Reader<W> {
         };
         push_newlines(&mut row.text, self.pending)?;
         self.pending = 1;
-        decode(&mut row.text, line)
+        push_decoded(&mut row.text, line)
     }
 
     /// Takes a line of what is wanted. Empty lines at the end aren't part of it.
@@ -113,18 +113,10 @@ impl<W: RowWord> Reader<W> {
         }
         push_newlines(&mut row.wanted, self.pending)?;
         self.pending = 0;
-        let fault = decode(&mut row.wanted, line)?;
+        let fault = push_decoded(&mut row.wanted, line)?;
         row.wanted.push('\n')?;
         Ok(fault)
     }
-}
-
-/// Writes a line with its escapes put back, and gives what is wrong with it.
-fn decode(out: &mut String, line: &str) -> Result<Option<&'static str>, AllocError> {
-    if push_decoded(out, line)? {
-        return Ok(None);
-    }
-    Ok(Some("an escape that names no character"))
 }
 
 fn push_newlines(out: &mut String, count: u64) -> Result<(), AllocError> {
@@ -136,5 +128,10 @@ fn push_newlines(out: &mut String, count: u64) -> Result<(), AllocError> {
 
 /// Whether the line stands around a title: sixteen or more equals signs and nothing else.
 fn is_bar(line: &str) -> bool {
-    line.len() >= 16 && line.chars().all(|c| c == '=')
+    for character in line.chars() {
+        if character != '=' {
+            return false;
+        }
+    }
+    line.len() >= 16
 }

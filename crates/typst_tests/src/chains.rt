@@ -61,12 +61,9 @@ fn shows(alloc: Global, parts: &[Part], (begin, text, end): Html) -> Option<bool
     Some(rest.strip_suffix(end) == Some(middle.as_str()))
 }
 
+/// Names of a chain are interpolated, and of a row of hashes the last is.
 #[test]
-fn names_of_a_chain_are_interpolated(rt: HostRuntime) {
+fn what_comes_after_a_hash_is_interpolated(rt: HostRuntime) {
     assert!(rt; shows(rt.alloc(), &CHAIN, CHAIN_HTML) == Some(true));
-}
-
-#[test]
-fn of_a_row_of_hashes_the_last_is_interpolated(rt: HostRuntime) {
     assert!(rt; shows(rt.alloc(), &HASHES, HASHES_HTML) == Some(true));
 }

@@ -1,13 +1,11 @@
 //! The answers of each class value, by the Unicode Character Database.
-ghost use Rattle.std.specs.Prelude.{◌≡◌};
-ghost use Rattle.std.specs.List.{list_all};
-ghost use Rattle.std.specs.Str.{chars};
-ghost use Rattle.typst_lines.specs.Classes.{in_line};
 
 use std::cell::Cell;
-use typst_fakes::{Counting, Narrow, Wide};
+use typst_fakes::{Counting, Narrow, Wide, first_cluster};
 use typst_lines::MathClass::{self, Alphabetic, Closing, Opening};
-use typst_lines::{Classes, UnicodeClasses, is_id_continue, is_id_start, is_ident, is_newline};
+use typst_lines::{
+    Classes, UnicodeClasses, is_id_continue, is_id_start, is_ident, is_valid_label_literal_id,
+};
 
 /// Starts an identifier, continues one, is alphabetic, alphanumeric, numeric, of a word.
 type Answers = [bool; 6];
@@ -69,13 +67,6 @@ const LAW: [Row; 7] = [
     (WHITE_SPACE, NONE, None),
 ];
 
-#[test]
-fn the_law_is_kept(rt: HostRuntime) {
-    assert!(rt; has_rows(&UnicodeClasses, &LAW));
-    assert!(rt; has_rows(&Wide, &LAW));
-    assert!(rt; has_rows(&Narrow, &LAW));
-}
-
 const UNICODE: [Row; 10] = [
     // Ll, Ll, Lu, Ll, Lo, a letter of formulas, and one of kana whose script is Common.
     ("éßΩжא𝑥ー", LETTER, None),
@@ -101,24 +92,12 @@ const IN_WIDE: [Row; 1] = [(OTHERS, LETTER, None)];
 
 const IN_NARROW: [Row; 1] = [(OTHERS, NONE, None)];
 
+/// The law is kept, and characters past ASCII are in the classes of each class value.
 #[test]
-fn characters_past_ascii(rt: HostRuntime) {
-    assert!(rt; has_rows(&UnicodeClasses, &UNICODE));
-    assert!(rt; has_rows(&Wide, &IN_WIDE) && has_rows(&Narrow, &IN_NARROW));
-}
-
-fn is_line(line: &str) -> bool
-    ensures { result ≡ list_all in_line (chars line.now) }
-{
-    line.chars().all(|c| !is_newline(c))
-}
-
-/// How many bytes the first cluster of a line has that isn't empty.
-fn first_cluster<C: Classes>(classes: &C, line: &str) -> Option<usize> {
-    if line.is_empty() || !is_line(line) {
-        return None;
-    }
-    Some(classes.cluster(line))
+fn characters(rt: HostRuntime) {
+    assert!(rt; has_rows(&UnicodeClasses, &LAW) && has_rows(&UnicodeClasses, &UNICODE));
+    assert!(rt; has_rows(&Wide, &LAW) && has_rows(&Wide, &IN_WIDE));
+    assert!(rt; has_rows(&Narrow, &LAW) && has_rows(&Narrow, &IN_NARROW));
 }
 
 /// A line, and how many bytes its first cluster has.
@@ -148,17 +127,13 @@ fn has_clusters<C: Classes>(classes: &C, rows: &[Cluster]) -> bool {
     true
 }
 
-#[test]
-fn clusters_by_unicode(rt: HostRuntime) {
-    assert!(rt; has_clusters(&UnicodeClasses, &CLUSTERS));
-}
-
 static WIDE_CLUSTERS: [Cluster; 2] = [("ab", 1), ("x é", 4)];
 
 static NARROW_CLUSTERS: [Cluster; 2] = [("e\u{301}", 1), ("中文", 3)];
 
 #[test]
-fn other_clusters(rt: HostRuntime) {
+fn clusters(rt: HostRuntime) {
+    assert!(rt; has_clusters(&UnicodeClasses, &CLUSTERS));
     assert!(rt; has_clusters(&Wide, &WIDE_CLUSTERS));
     assert!(rt; has_clusters(&Narrow, &NARROW_CLUSTERS));
 }
@@ -176,8 +151,30 @@ static IDENTIFIERS: [Identifier; 6] = [
     ("\u{301}", [false, true, false]),
 ];
 
+/// A text, and whether a label can have this name by Unicode, where nearly all are letters, and where only
+/// ASCII is.
+type Name = (&'static str, [bool; 3]);
+
+static NAMES: [Name; 7] = [
+    (":a", [true, true, true]),
+    ("a-b_1.c:d", [true, true, true]),
+    ("é", [true, true, false]),
+    ("", [false, false, false]),
+    ("a b", [false, false, false]),
+    ("a>", [false, false, false]),
+    ("->", [false, false, false]),
+];
+
 #[test]
-fn identifiers(rt: HostRuntime) {
+fn identifiers_and_names_of_labels(rt: HostRuntime) {
+    for (id, wanted) in &NAMES {
+        let found = [
+            is_valid_label_literal_id(id, &UnicodeClasses),
+            is_valid_label_literal_id(id, &Wide),
+            is_valid_label_literal_id(id, &Narrow),
+        ];
+        assert!(rt; found == *wanted);
+    }
     for (text, wanted) in &IDENTIFIERS {
         let found = [
             is_ident(text, &UnicodeClasses),

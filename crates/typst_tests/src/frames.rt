@@ -17,10 +17,10 @@ fn has(alloc: Global, stream: Reader<'_>, bodies: &[&[u8]], end: End) -> Option<
     Some(frames.read_frame(&mut body) == Err(end) && frames.read_frame(&mut body) == Err(end))
 }
 
-/// A stream with the bodies that it has, and how it ends after them.
+/// A stream with the bodies that it has, and how it ends after them: `NotRead` where it fails there.
 type Row<'a> = (&'a [u8], &'a [&'a [u8]], End);
 
-static ROWS: [Row<'static>; 30] = [
+static ROWS: [Row<'static>; 33] = [
     (b"", &[], End::Clean),
     (b"Content-Length: 0\r\n\r\n", &[b""], End::Clean),
     (b"Content-Length: 2\r\n\r\n{}", &[b"{}"], End::Clean),
@@ -79,6 +79,9 @@ static ROWS: [Row<'static>; 30] = [
         &[],
         End::CutOff,
     ),
+    (b"", &[], End::NotRead),
+    (b"Content-Length: 2\r\n", &[], End::NotRead),
+    (b"Content-Length: 2\r\n\r\n{", &[], End::NotRead),
 ];
 
 /// However little is read at a time, and wherever that is interrupted.
@@ -86,23 +89,15 @@ static ROWS: [Row<'static>; 30] = [
 fn rows_at_each_pace(rt: HostRuntime) {
     for pace in PACES {
         for (bytes, bodies, end) in &ROWS {
-            let stream = Reader::ending(bytes, pace);
+            let stream = match end {
+                End::NotRead => Reader::failing(bytes, pace),
+                _ => Reader::ending(bytes, pace),
+            };
             assert!(rt;
                 has(rt.alloc(), stream, bodies, *end) == Some(true),
                 "{pace:?}"
             );
         }
-    }
-}
-
-static CUT_OFF: [&[u8]; 3] = [b"", b"Content-Length: 2\r\n", b"Content-Length: 2\r\n\r\n{"];
-
-/// Streams that fail where they would end report that they weren't read.
-#[test]
-fn failed_reads(rt: HostRuntime) {
-    for bytes in &CUT_OFF {
-        let stream = Reader::failing(bytes, Pace::Interrupted);
-        assert!(rt; has(rt.alloc(), stream, &[], End::NotRead) == Some(true));
     }
 }
 

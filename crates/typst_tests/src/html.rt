@@ -104,7 +104,7 @@ fn shows(alloc: Global, rows: &[Row], html: &str) -> Option<bool> {
     Some(highlight_html(alloc, &root).ok()?.as_str() == html)
 }
 
-/// Also the next time where memory was refused: `rt try --test --fail-alloc N` refuses the Nth request.
+/// HTML is right, also the next time after refused memory: `rt try --test --fail-alloc N` refuses the Nth request.
 #[test]
 fn documents_have_their_html(rt: HostRuntime) {
     let alloc = rt.alloc();

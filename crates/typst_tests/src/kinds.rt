@@ -1,35 +1,6 @@
-use std::mem::size_of;
 use typst_kinds::{
     Assoc, BinOp, FileId, Span, SpanNumber, SubRange, SyntaxKind, SyntaxSet, UnOp, set,
 };
-
-/// A kind, and its name in messages.
-type Name = (SyntaxKind, &'static str);
-
-static NAMES: [Name; 12] = [
-    (SyntaxKind::End, "end of tokens"),
-    (SyntaxKind::Error, "syntax error"),
-    (SyntaxKind::Parbreak, "paragraph break"),
-    (SyntaxKind::RawTrimmed, "raw trimmed"),
-    (SyntaxKind::MathFieldAccess, "math field access"),
-    (SyntaxKind::RightBracket, "closing bracket"),
-    (SyntaxKind::HyphEq, "subtract-assign operator"),
-    (SyntaxKind::Not, "operator `not`"),
-    (SyntaxKind::None, "`none`"),
-    (SyntaxKind::Let, "keyword `let`"),
-    (SyntaxKind::SetRule, "`set` expression"),
-    (
-        SyntaxKind::DestructAssignment,
-        "destructuring assignment expression",
-    ),
-];
-
-#[test]
-fn names(rt: HostRuntime) {
-    for (kind, name) in &NAMES {
-        assert!(rt; kind.name() == *name);
-    }
-}
 
 /// The kinds of some tests, and one that is none of them: whether each is trivia, an error, a keyword, a
 /// bracket, what ends a sequence, a block, or an expression after a hash.
@@ -68,6 +39,13 @@ static CLASSES: [(SyntaxKind, [bool; 7]); 8] = [
     ),
 ];
 
+/// Whether the first and the last kind are put into a set and taken out of it.
+fn changes(end: SyntaxSet) -> bool {
+    let both = end.add(SyntaxKind::DestructAssignment);
+    let last = both.remove(SyntaxKind::End).remove(SyntaxKind::Error);
+    both.contains(SyntaxKind::End) && !last.contains(SyntaxKind::End) && last.union(end) == both
+}
+
 #[test]
 fn kinds_have_classes(rt: HostRuntime) {
     for (kind, wanted) in &CLASSES {
@@ -82,17 +60,6 @@ fn kinds_have_classes(rt: HostRuntime) {
         ];
         assert!(rt; classes == *wanted);
     }
-}
-
-/// Whether the first and the last kind are put into a set and taken out of it.
-fn changes(end: SyntaxSet) -> bool {
-    let both = end.add(SyntaxKind::DestructAssignment);
-    let last = both.remove(SyntaxKind::End).remove(SyntaxKind::Error);
-    both.contains(SyntaxKind::End) && !last.contains(SyntaxKind::End) && last.union(end) == both
-}
-
-#[test]
-fn sets_change(rt: HostRuntime) {
     assert!(rt; changes(SyntaxSet::new().add(SyntaxKind::End)));
     assert!(rt; set::CODE_EXPR.contains(SyntaxKind::Minus));
 }
@@ -110,16 +77,6 @@ static BINARY: [Binary; 6] = [
     (SyntaxKind::Slash, BinOp::Div, 6, Assoc::Left),
 ];
 
-/// The operator of two words, which has no kind, binds as the one of one word does.
-#[test]
-fn binary_operators(rt: HostRuntime) {
-    for (kind, operator, precedence, assoc) in &BINARY {
-        assert!(rt; BinOp::from_kind(*kind) == Some(*operator));
-        assert!(rt; operator.precedence() == *precedence && operator.assoc() == *assoc);
-    }
-    assert!(rt; BinOp::NotIn.precedence() == 4 && BinOp::NotIn.assoc() == Assoc::Left);
-}
-
 /// A kind, its unary operator, and how tightly this binds.
 type Unary = (SyntaxKind, UnOp, u8);
 
@@ -129,27 +86,29 @@ static UNARY: [Unary; 3] = [
     (SyntaxKind::Not, UnOp::Not, 4),
 ];
 
+/// The operator of two words, which has no kind, binds as the one of one word does.
 #[test]
-fn unary_operators(rt: HostRuntime) {
+fn operators(rt: HostRuntime) {
+    for (kind, operator, precedence, assoc) in &BINARY {
+        assert!(rt; BinOp::from_kind(*kind) == Some(*operator));
+        assert!(rt; operator.precedence() == *precedence && operator.assoc() == *assoc);
+    }
+    assert!(rt; BinOp::NotIn.precedence() == 4 && BinOp::NotIn.assoc() == Assoc::Left);
     for (kind, operator, precedence) in &UNARY {
         assert!(rt; UnOp::from_kind(*kind) == Some(*operator));
         assert!(rt; operator.precedence() == *precedence);
     }
 }
 
+/// Spans keep the greatest file and number; beyond the limits there is no file, no number, and no range.
 #[test]
-fn spans_keep_the_greatest(rt: HostRuntime) {
+fn spans(rt: HostRuntime) {
     let file = FileId::new(65535).expect(&rt, "a file");
     let number = SpanNumber::new((1 << 47) - 1).expect(&rt, "a number");
     let span = Span::new(file, number);
     assert!(rt; span.get() == Some((file, number)) && span.id() == Some(file));
     assert!(rt; span.number_or_zero() == number.get());
-    assert!(rt; Span::detached().get().is_none() && size_of::<Span>() == 8);
-}
-
-/// Whether there is a number of a file, of a span, or of a range.
-#[test]
-fn limits(rt: HostRuntime) {
+    assert!(rt; Span::detached().get().is_none());
     assert!(rt; FileId::new(0).is_none());
     assert!(rt; SpanNumber::new(1).is_none() && SpanNumber::new(2).is_some());
     assert!(rt; SpanNumber::new(1 << 47).is_none());

@@ -1,5 +1,5 @@
-//! Tests of `typst_kinds`, `typst_tree` and `typst_highlight`, of tokens, labels, links and raw texts, of
-//! frames and positions, through their public calls: of what no clause says and no row can.
+//! Tests of `typst_kinds`, `typst_tree` and `typst_highlight`, of tokens, labels and links, of frames and
+//! positions, through their public calls: of what no clause says and no row can.
 #![tactic(auto)]
 
 #[cfg(test)]
@@ -24,8 +24,6 @@ mod nodes;
 mod numbers;
 #[cfg(test)]
 mod positions;
-#[cfg(test)]
-mod raws;
 #[cfg(test)]
 mod refusals;
 #[cfg(test)]

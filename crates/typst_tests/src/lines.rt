@@ -19,26 +19,13 @@ static PLACES: [(usize, usize, usize); 7] = [
 /// Bytes of `TEXT` with the UTF-16 units before them.
 static UNITS: [(usize, usize); 6] = [(0, 0), (2, 1), (3, 2), (8, 7), (12, 9), (21, 18)];
 
-/// Whether a line ends where it does, and nothing lies past the text or within a character.
-fn has_ends(lines: &Lines<&str>) -> bool {
-    let nowhere = [
-        lines.line_column_to_byte(1, 6),
-        lines.byte_to_line(22),
-        lines.byte_to_column(1),
-        lines.byte_to_utf16(22),
-        lines.utf16_to_byte(19),
-    ];
-    nowhere == [None; 5]
-        && lines.line_to_range(1) == Some(7..15)
-        && lines.line_column_to_byte(1, 5) == Some(15)
-}
-
 /// Whether one UTF-16 unit stands before this byte of a text.
 fn has_after_one(alloc: Global, text: &str, byte: Option<usize>) -> Option<bool> {
     Some(Lines::new(alloc, text).ok()?.utf16_to_byte(1) == byte)
 }
 
-/// Bytes stand at their lines and columns, so many UTF-16 units stand before them, and these lead back to them.
+/// Bytes stand at their lines and columns, so many UTF-16 units stand before them, and these lead back to them. A line
+/// ends where it does, and nothing lies past the text or within a character.
 #[test]
 fn places(rt: HostRuntime) {
     let lines = Lines::new(rt.alloc(), TEXT).expect(&rt, "memory");
@@ -50,7 +37,16 @@ fn places(rt: HostRuntime) {
         assert!(rt; lines.byte_to_utf16(*byte) == Some(*utf16));
         assert!(rt; lines.utf16_to_byte(*utf16) == Some(*byte));
     }
-    assert!(rt; has_ends(&lines));
+    assert!(rt; lines.line_to_range(1) == Some(7..15));
+    assert!(rt; lines.line_column_to_byte(1, 5) == Some(15));
+    let nowhere = [
+        lines.line_column_to_byte(1, 6),
+        lines.byte_to_line(22),
+        lines.byte_to_column(1),
+        lines.byte_to_utf16(22),
+        lines.utf16_to_byte(19),
+    ];
+    assert!(rt; nowhere == [None; 5]);
     assert!(rt; has_after_one(rt.alloc(), "💛a", Some(4)) == Some(true));
     assert!(rt; has_after_one(rt.alloc(), "💛", None) == Some(true));
 }
@@ -128,15 +124,11 @@ fn splits(alloc: Global) -> Option<bool> {
     Some(split_newlines(alloc, "a\r\nb\r").ok()?.as_slice() == STRETCHES.as_slice())
 }
 
+/// A text is split at its line ends, and a cursor says what it passes.
 #[test]
-fn line_ends(rt: HostRuntime) {
+fn line_ends_and_a_cursor(rt: HostRuntime) {
     assert!(rt; is_newline('\u{2029}') && !is_newline('\t'));
     assert!(rt; is_confirmed(splits(rt.alloc()), splits(rt.alloc())));
-}
-
-/// A cursor says what it passes.
-#[test]
-fn a_cursor(rt: HostRuntime) {
     let mut cursor = Scanner::new("ab\r\nc\u{85}");
     assert!(rt; cursor.eat() == Some('a') && cursor.scout(1) == Some('\r'));
     assert!(rt; cursor.eat_until(&'\r') == "b" && cursor.scout(-2) == Some('a'));

@@ -1,8 +1,6 @@
-//! The brackets of links, and names of labels.
-use crate::refusals::is_confirmed;
+//! The brackets of links.
 use std::alloc::{AllocError, Global};
-use typst_fakes::{Narrow, Wide};
-use typst_lines::{UnicodeClasses, is_valid_label_literal_id, link_prefix};
+use typst_lines::link_prefix;
 
 /// The text without the pairs that stand in it.
 fn without_pairs(alloc: Global, text: &str) -> Result<String, AllocError> {
@@ -17,8 +15,8 @@ fn closed(alloc: Global, brackets: &str) -> Result<Option<bool>, AllocError> {
     for _ in 0..brackets.len() {
         left = without_pairs(alloc, left.as_str())?;
     }
-    let only_opens = left.as_str().chars().all(|c| c == '(' || c == '[');
-    Ok(only_opens.then_some(left.is_empty()))
+    let is_closing = left.as_str().contains(")") || left.as_str().contains("]");
+    Ok((!is_closing).then_some(left.is_empty()))
 }
 
 /// The longest beginning of which only opening brackets are left without its pairs, and whether
@@ -67,56 +65,5 @@ fn closes_brackets(rt: HostRuntime) {
             assert!(rt; agrees(rt.alloc(), count, number) == Ok(true));
         }
         ways = ways.saturating_mul(4);
-    }
-}
-
-/// Whether a text begins with this link, whose brackets are balanced.
-fn begins(alloc: Global, text: &str, link: &str) -> Option<bool> {
-    let (got, is_balanced) = link_prefix(alloc, text).ok()?;
-    Some(got == link && is_balanced)
-}
-
-/// Texts, and the links that they begin with.
-type Link = (&'static str, &'static str);
-
-static LINKS: [Link; 4] = [
-    ("a(b)c d", "a(b)c"),
-    ("a(b)]", "a(b)"),
-    ("a.b", "a.b"),
-    ("é", ""),
-];
-
-/// `rt try --test --fail-alloc N` refuses the Nth request.
-#[test]
-fn reads_again_where_memory_is_refused(rt: HostRuntime) {
-    let alloc = rt.alloc();
-    for (text, link) in &LINKS {
-        assert!(rt; is_confirmed(begins(alloc, text, link), begins(alloc, text, link)));
-    }
-}
-
-/// A text, and whether a label can have this name by Unicode, where nearly all are letters, and where only
-/// ASCII is.
-type Name = (&'static str, [bool; 3]);
-
-static NAMES: [Name; 7] = [
-    (":a", [true, true, true]),
-    ("a-b_1.c:d", [true, true, true]),
-    ("é", [true, true, false]),
-    ("", [false, false, false]),
-    ("a b", [false, false, false]),
-    ("a>", [false, false, false]),
-    ("->", [false, false, false]),
-];
-
-#[test]
-fn knows_names_of_labels(rt: HostRuntime) {
-    for (id, wanted) in &NAMES {
-        let found = [
-            is_valid_label_literal_id(id, &UnicodeClasses),
-            is_valid_label_literal_id(id, &Wide),
-            is_valid_label_literal_id(id, &Narrow),
-        ];
-        assert!(rt; found == *wanted);
     }
 }

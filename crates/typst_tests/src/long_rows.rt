@@ -21,22 +21,6 @@ struct Place {
     number: u64,
 }
 
-/// The place of a node in a list of those before it.
-fn placed(node: &SyntaxNode, parent: Option<usize>, place: usize, begin: usize) -> Place {
-    let kind = node.kind();
-    let is_leaf = node.children().is_empty();
-    Place {
-        parent,
-        after: place.saturating_add(1),
-        begin,
-        end: begin.saturating_add(node.leaf_text().len()),
-        is_leaf,
-        is_trivia: kind.is_trivia(),
-        counts: is_leaf && !kind.is_trivia() && !kind.is_error(),
-        number: node.span().number_or_zero(),
-    }
-}
-
 /// A node, and the place of the one above it.
 type Left<'a> = (&'a SyntaxNode, Option<usize>);
 
@@ -54,13 +38,24 @@ fn alone(alloc: Global, root: &SyntaxNode) -> Option<Vec<Place>> {
     let mut left = Vec::new(alloc);
     left.push((root, None)).ok()?;
     let mut begin = 0usize;
-    for place in 0..100_000 {
+    for place in 0..100_000usize {
         let Some((node, parent)) = left.pop() else {
             break;
         };
-        let own = placed(node, parent, place, begin);
-        begin = own.end;
+        let end = begin.saturating_add(node.leaf_text().len());
+        let (is_leaf, is_trivia) = (node.children().is_empty(), node.kind().is_trivia());
+        let own = Place {
+            parent,
+            after: place.saturating_add(1),
+            begin,
+            end,
+            is_leaf,
+            is_trivia,
+            counts: is_leaf && !is_trivia && !node.kind().is_error(),
+            number: node.span().number_or_zero(),
+        };
         all.push(own).ok()?;
+        begin = end;
         leave_nodes(&mut left, node, place)?;
     }
     Some(all)
@@ -100,19 +95,16 @@ enum Aim {
     Byte(usize),
 }
 
-/// Whether a node is what a step looks for.
-fn meets(aim: Aim, place: &Place) -> bool {
-    match aim {
-        Aim::Child(parent) => place.parent == parent && !place.is_trivia,
-        Aim::Leaf => place.counts,
-        Aim::Byte(byte) => place.is_leaf && place.begin <= byte && byte < place.end,
-    }
-}
-
 /// The first place from one on and before another whose node is looked for.
 fn first_place(places: &[Place], from: usize, to: usize, aim: Aim) -> Option<usize> {
     for place in from..to {
-        if meets(aim, places.get(place)?) {
+        let own = places.get(place)?;
+        let is_aim = match aim {
+            Aim::Child(parent) => own.parent == parent && !own.is_trivia,
+            Aim::Leaf => own.counts,
+            Aim::Byte(byte) => own.is_leaf && own.begin <= byte && byte < own.end,
+        };
+        if is_aim {
             return Some(place);
         }
     }
@@ -144,17 +136,6 @@ fn wanted(places: &[Place], place: usize) -> Option<[Option<usize>; 6]> {
     ])
 }
 
-fn steps<'a>(node: LinkedNode<'a>) -> [Option<LinkedNode<'a>>; 6] {
-    [
-        node.parent(),
-        node.next_sibling(),
-        node.prev_leaf(),
-        node.next_leaf(),
-        node.leftmost_leaf(),
-        node.leaf_at(node.offset()),
-    ]
-}
-
 /// Whether the node stands at a place of the list.
 fn stands(places: &[Place], node: LinkedNode, place: usize) -> bool {
     match places.get(place) {
@@ -179,7 +160,14 @@ fn leads(places: &[Place], node: Option<LinkedNode>, place: Option<usize>, count
     let Some(wanted) = wanted(places, place) else {
         return false;
     };
-    let steps = steps(node);
+    let steps = [
+        node.parent(),
+        node.next_sibling(),
+        node.prev_leaf(),
+        node.next_leaf(),
+        node.leftmost_leaf(),
+        node.leaf_at(node.offset()),
+    ];
     for i in 0..6 {
         if !leads(places, steps[i], wanted[i], count - 1) {
             return false;
@@ -207,14 +195,6 @@ fn walks_at(places: &[Place], top: LinkedNode, node: LinkedNode) -> Option<bool>
     Some(leads(places, Some(node), place, 2) && leads(places, found, place, 1))
 }
 
-/// Puts the children of a node on a list of nodes that are left.
-fn leave_children<'a>(left: &mut Vec<LinkedNode<'a>>, node: LinkedNode<'a>) -> Option<()> {
-    for kid in node.children() {
-        left.push(kid).ok()?;
-    }
-    Some(())
-}
-
 /// Whether that holds of each node of the tree.
 fn walks(alloc: Global, places: &[Place], top: LinkedNode) -> Option<bool> {
     let mut left = Vec::new(alloc);
@@ -224,7 +204,9 @@ fn walks(alloc: Global, places: &[Place], top: LinkedNode) -> Option<bool> {
         if !walks_at(places, top, node)? {
             return Some(false);
         }
-        leave_children(&mut left, node)?;
+        for kid in node.children() {
+            left.push(kid).ok()?;
+        }
     }
     Some(left.is_empty())
 }

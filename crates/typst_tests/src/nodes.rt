@@ -1,12 +1,13 @@
 use crate::rows::{Part, leaf, long_tree};
 use crate::trees::{END, numbered, same, sample};
 use std::mem::size_of;
-use typst_kinds::{Hint, Severity, Span, SyntaxKind};
-use typst_tree::SyntaxNode;
+use typst_kinds::{Severity, Span, SyntaxKind};
+use typst_tree::{LinkedNode, SyntaxNode};
 
 #[test]
-fn a_node_takes_48_bytes(rt: HostRuntime) {
-    assert!(rt; size_of::<SyntaxNode>() == 48);
+fn nodes_and_spans_are_small(rt: HostRuntime) {
+    assert!(rt; size_of::<SyntaxNode>() == 48 && size_of::<Span>() == 8);
+    assert!(rt; size_of::<LinkedNode>() <= 40);
 }
 
 fn have_kinds(nodes: &[SyntaxNode], kinds: &[SyntaxKind]) -> bool {
@@ -34,22 +35,15 @@ fn reads_what_was_made(rt: HostRuntime) {
     assert!(rt; have_kinds(node.children(), &SAMPLE_KINDS));
 }
 
-/// Whether the hints are that one, or none where it is empty.
-fn are_hint(hints: &[Hint], wanted: &str) -> bool {
-    match hints {
-        [] => wanted.is_empty(),
-        [hint] => wanted == hint.message(),
-        _ => false,
-    }
-}
-
-/// Whether the node has one error, with that message and that hint, if any.
+/// Whether the node has one error, with that message and that hint, or none where it is empty.
 fn says(node: &SyntaxNode, message: &str, hint: &str) -> bool {
     match node.diagnostics() {
-        [error] => {
-            error.severity() == Severity::Error
-                && error.message() == message
-                && are_hint(error.hints(), hint)
+        [error] if error.severity() == Severity::Error && error.message() == message => {
+            match error.hints() {
+                [] => hint.is_empty(),
+                [only] => hint == only.message(),
+                _ => false,
+            }
         }
         _ => false,
     }

@@ -98,16 +98,10 @@ fn comes(alloc: Global, case: &Case) -> Option<bool> {
     Some(answer == case.answer && is_then(alloc, &node, case)?)
 }
 
-fn all_come(alloc: Global, cases: &[Case]) -> Option<bool> {
-    for case in cases {
-        if !comes(alloc, case)? {
-            return Some(false);
-        }
-    }
-    Some(true)
-}
-
-static NUMBERED: [Case; 3] = [
+/// Trees that get numbers, of which two are enough for two nodes; trees that find none, which keep their own; leaves
+/// in the place of others: one that takes the other's number, and two for which there is none. Without a file
+/// numbers are refused also where no new node asks for a number.
+static CASES: [Case; 10] = [
     Case {
         rows: &A_UNDER_MARKUP,
         end: 0,
@@ -132,14 +126,6 @@ static NUMBERED: [Case; 3] = [
         then: &ORIGINAL,
         numbers: ORIGINAL_NUMBERS,
     },
-];
-
-#[test]
-fn trees_get_numbers(rt: HostRuntime) {
-    assert!(rt; all_come(rt.alloc(), &NUMBERED) == Some(true));
-}
-
-static TOO_FEW: [Case; 2] = [
     Case {
         rows: &A_UNDER_MARKUP,
         end: 0,
@@ -156,15 +142,6 @@ static TOO_FEW: [Case; 2] = [
         then: &A_UNDER_MARKUP,
         numbers: &[2, 3],
     },
-];
-
-#[test]
-fn a_tree_that_finds_no_numbers_keeps_its_own(rt: HostRuntime) {
-    assert!(rt; all_come(rt.alloc(), &TOO_FEW) == Some(true));
-}
-
-/// One leaf in the place of another, whose number it takes, and two.
-static REPLACED: [Case; 2] = [
     Case {
         rows: &A_UNDER_MARKUP,
         end: 4,
@@ -181,15 +158,6 @@ static REPLACED: [Case; 2] = [
         then: &A_UNDER_MARKUP,
         numbers: &[2, 3],
     },
-];
-
-#[test]
-fn two_numbers_are_enough_for_two_nodes(rt: HostRuntime) {
-    assert!(rt; all_come(rt.alloc(), &REPLACED) == Some(true));
-}
-
-/// Also where no new node asks for a number.
-static WITHOUT_FILE: [Case; 3] = [
     Case {
         rows: &A_UNDER_MARKUP,
         end: 0,
@@ -217,8 +185,10 @@ static WITHOUT_FILE: [Case; 3] = [
 ];
 
 #[test]
-fn a_tree_of_no_file_finds_no_numbers(rt: HostRuntime) {
-    assert!(rt; all_come(rt.alloc(), &WITHOUT_FILE) == Some(true));
+fn numbers_are_given_or_refused(rt: HostRuntime) {
+    for case in &CASES {
+        assert!(rt; comes(rt.alloc(), case) == Some(true));
+    }
 }
 
 const OLD: [Row; 6] = [
@@ -236,15 +206,7 @@ const NEW: [Row; 3] = [
     (SyntaxKind::Comma, "x", None),
 ];
 
-/// Whether only the number at that place differs.
-fn differ_at(place: usize, old: &[u64], new: &[u64]) -> bool {
-    let after = place.saturating_add(1);
-    old.get(place) != new.get(place)
-        && old.get(..place) == new.get(..place)
-        && old.get(after..) == new.get(after..)
-}
-
-/// Of the three leaves in the middle only one is new.
+/// Of the three leaves in the middle only one is new, and only its number is another one.
 #[test]
 fn what_stays_keeps_its_number(rt: HostRuntime) {
     let tree = tree(rt.alloc(), &OLD).expect(&rt, "memory");
@@ -253,7 +215,9 @@ fn what_stays_keeps_its_number(rt: HostRuntime) {
     let fresh = list(rt.alloc(), &NEW).expect(&rt, "memory");
     assert!(rt; replace(&mut node, &[], 1, 4, fresh).is_ok());
     let new = numbers(rt.alloc(), &node).expect(&rt, "memory");
-    assert!(rt; differ_at(3, old.as_slice(), new.as_slice()));
+    let (before, after) = (old.as_slice(), new.as_slice());
+    assert!(rt; before.get(3) != after.get(3));
+    assert!(rt; before.get(..3) == after.get(..3) && before.get(4..) == after.get(4..));
 }
 
 /// Whether each number is below the next one, and the last one below the end.

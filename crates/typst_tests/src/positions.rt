@@ -42,16 +42,6 @@ static ROWS: [Row<'static>; 22] = [
     ("\u{e4}\u{1f49b}b", Encoding::Utf8, 0, 6, 6),
 ];
 
-/// To the byte that each position is at.
-#[test]
-fn rows_to_bytes(rt: HostRuntime) {
-    for row in &ROWS {
-        let (text, encoding, line, column, byte) = *row;
-        let positions = Positions::new(rt.alloc(), text).expect(&rt, "memory");
-        assert!(rt; positions.to_byte(text, encoding, Position { line, column }) == byte);
-    }
-}
-
 /// A text, what columns are counted in, a byte, and the line and the column there.
 type Back<'a> = (&'a str, Encoding, usize, usize, usize);
 
@@ -73,9 +63,14 @@ static BACKS: [Back<'static>; 15] = [
     ("\u{e4}\u{1f49b}b", Encoding::Utf8, 5, 0, 2),
 ];
 
-/// To the position of each byte.
+/// To the byte that each position is at, and to the position of each byte.
 #[test]
-fn rows_to_positions(rt: HostRuntime) {
+fn rows_there_and_back(rt: HostRuntime) {
+    for row in &ROWS {
+        let (text, encoding, line, column, byte) = *row;
+        let positions = Positions::new(rt.alloc(), text).expect(&rt, "memory");
+        assert!(rt; positions.to_byte(text, encoding, Position { line, column }) == byte);
+    }
     for row in &BACKS {
         let (text, encoding, byte, line, column) = *row;
         let positions = Positions::new(rt.alloc(), text).expect(&rt, "memory");

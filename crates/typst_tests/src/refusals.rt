@@ -91,25 +91,6 @@ static CHANGES: [Change; 7] = [
     Change::HintAt,
 ];
 
-#[test]
-fn a_refused_change_changes_nothing(rt: HostRuntime) {
-    let alloc = rt.alloc();
-    for change in &CHANGES {
-        assert!(rt;
-            is_confirmed(
-                changes_or_stays(alloc, change),
-                changes_or_stays(alloc, change)
-            )
-        );
-    }
-    assert!(rt;
-        is_confirmed(
-            keyword_becomes_an_error(alloc),
-            keyword_becomes_an_error(alloc)
-        )
-    );
-}
-
 /// The leaves a and b three levels down.
 pub(crate) const DEEP: [Row; 6] = [
     (SyntaxKind::Text, "a", None),
@@ -161,30 +142,18 @@ static REPLACEMENTS: [Replacement; 6] = [
     (8, 1, Err(SourceError::SpanNumbers)),
 ];
 
-#[test]
-fn a_refusal_at_depth_three_changes_nothing(rt: HostRuntime) {
-    let alloc = rt.alloc();
-    for one in &REPLACEMENTS {
-        assert!(rt;
-            is_confirmed(
-                replaces_or_stays(alloc, *one),
-                replaces_or_stays(alloc, *one)
-            )
-        );
-    }
-}
-
 /// A text that takes memory of its own.
 const LONG: &str = "a text that is too long to stand in a node";
 
-fn makes_leaf(alloc: Global) -> Option<bool> {
-    let leaf = SyntaxNode::leaf(alloc, SyntaxKind::Text, LONG).ok()?;
-    Some(leaf.leaf_text() == LONG)
-}
-
-fn makes_error(alloc: Global) -> Option<bool> {
-    let error = SyntaxNode::error(alloc, "message", LONG).ok()?;
-    Some(error.leaf_text() == LONG && error.diagnostics().len() == 1)
+/// Whether a leaf, or an error, is made.
+fn makes(alloc: Global, is_error: bool) -> Option<bool> {
+    let made = if is_error {
+        SyntaxNode::error(alloc, "message", LONG)
+    } else {
+        SyntaxNode::leaf(alloc, SyntaxKind::Text, LONG)
+    };
+    let node = made.ok()?;
+    Some(node.leaf_text() == LONG && node.diagnostics().len() == usize::from(is_error))
 }
 
 /// Whether a tree is copied, and stays as it is.
@@ -192,14 +161,6 @@ fn copies(alloc: Global) -> Option<bool> {
     let node = warned(alloc)?;
     let copy = node.try_clone().ok();
     Some(is_warned(alloc, &node)? && is_warned(alloc, &copy?)?)
-}
-
-#[test]
-fn what_was_refused_is_made_again(rt: HostRuntime) {
-    let alloc = rt.alloc();
-    assert!(rt; is_confirmed(makes_leaf(alloc), makes_leaf(alloc)));
-    assert!(rt; is_confirmed(makes_error(alloc), makes_error(alloc)));
-    assert!(rt; is_confirmed(copies(alloc), copies(alloc)));
 }
 
 const LINES: &str = "ä\tcde\nf💛g\r\nhi\rjkl";
@@ -254,9 +215,32 @@ fn lines_change_or_stay(alloc: Global, way: &Way) -> Option<bool> {
     Some(changes && is_kept(&mut lines) && is_fresh(alloc, &lines, LINES)?)
 }
 
+/// A change that is refused changes nothing: of a node, of nodes at depth three, and of lines.
 #[test]
-fn refused_lines_stay(rt: HostRuntime) {
+fn a_refused_change_changes_nothing(rt: HostRuntime) {
     let alloc = rt.alloc();
+    for change in &CHANGES {
+        assert!(rt;
+            is_confirmed(
+                changes_or_stays(alloc, change),
+                changes_or_stays(alloc, change)
+            )
+        );
+    }
+    assert!(rt;
+        is_confirmed(
+            keyword_becomes_an_error(alloc),
+            keyword_becomes_an_error(alloc)
+        )
+    );
+    for one in &REPLACEMENTS {
+        assert!(rt;
+            is_confirmed(
+                replaces_or_stays(alloc, *one),
+                replaces_or_stays(alloc, *one)
+            )
+        );
+    }
     for way in &WAYS {
         assert!(rt;
             is_confirmed(
@@ -267,8 +251,10 @@ fn refused_lines_stay(rt: HostRuntime) {
     }
 }
 
-/// Whether lines of `LINES` describe themselves, and positions in them are right.
-fn describe_themselves(lines: &Lines<String>) -> bool {
+/// Whether lines describe themselves, answer for positions, and aren't changed by an equal text.
+fn lines_answer(alloc: Global) -> Option<bool> {
+    let mut lines = lines_of(alloc, LINES)?;
+    let is_kept = is_kept(&mut lines);
     let answers = [
         lines.byte_to_line(12),
         lines.byte_to_column(12),
@@ -277,18 +263,13 @@ fn describe_themselves(lines: &Lines<String>) -> bool {
         lines.line_to_byte(1),
         lines.line_column_to_byte(1, 2),
     ];
-    answers == [Some(1), Some(2), Some(9), Some(12), Some(7), Some(12)]
+    let are_right = answers == [Some(1), Some(2), Some(9), Some(12), Some(7), Some(12)]
         && lines.byte_to_line_column(12) == Some((1, 2))
         && lines.line_to_range(1) == Some(7..15)
         && [lines.len_bytes(), lines.len_utf16(), lines.len_lines()] == [21, 18, 4]
         && lines.text() == LINES
-        && lines.replacement_range(LINES).is_none()
-}
-
-/// Whether lines answer for positions and aren't changed by an equal text.
-fn lines_answer(alloc: Global) -> Option<bool> {
-    let mut lines = lines_of(alloc, LINES)?;
-    Some(is_kept(&mut lines) && describe_themselves(&lines))
+        && lines.replacement_range(LINES).is_none();
+    Some(is_kept && are_right)
 }
 
 /// What lines hash to.
@@ -325,16 +306,7 @@ fn lines_are_compared(alloc: Global) -> Option<bool> {
     Some(are_compared && is_second(lines.line(1)) && is_second(second()))
 }
 
-/// Whether the kinds and spans change, and the node is numbered.
-fn converts_and_numbers(node: &mut SyntaxNode) -> bool {
-    node.convert_child_to_kind(1, SyntaxKind::Space);
-    node.convert_to_kind(SyntaxKind::Markup);
-    node.synthesize(Span::detached());
-    let is_detached = node.kind() == SyntaxKind::Markup && node.span() == Span::detached();
-    is_detached && number(node, 2, END).is_ok() && node.span().number().is_some()
-}
-
-/// Whether a node describes itself, is compared, and its kinds and spans change.
+/// Whether a node describes itself, is compared, its kinds and spans change, and it is numbered.
 fn converts(alloc: Global) -> Option<bool> {
     let mut node = warned(alloc)?;
     let is_same = node.spanless_eq(&warned(alloc)?);
@@ -343,19 +315,23 @@ fn converts(alloc: Global) -> Option<bool> {
         && [node.is_inner(), node.is_empty()] == [true, false]
         && node.kind() == SyntaxKind::ContentBlock
         && node.leaf_text() == "";
-    Some(is_same && is_described && converts_and_numbers(&mut node))
+    node.convert_child_to_kind(1, SyntaxKind::Space);
+    node.convert_to_kind(SyntaxKind::Markup);
+    node.synthesize(Span::detached());
+    let is_detached = node.kind() == SyntaxKind::Markup && node.span() == Span::detached();
+    let is_numbered = number(&mut node, 2, END).is_ok() && node.span().number().is_some();
+    Some(is_same && is_described && is_detached && is_numbered)
 }
 
-/// Once they are made, lines take no memory for what these cases ask.
+/// What was refused is made again; once they are made, neither lines nor a node take memory for what these cases ask.
 #[test]
-fn lines_tell_positions_without_memory(rt: HostRuntime) {
+fn what_was_refused_is_made_again(rt: HostRuntime) {
     let alloc = rt.alloc();
+    for is_error in [false, true] {
+        assert!(rt; is_confirmed(makes(alloc, is_error), makes(alloc, is_error)));
+    }
+    assert!(rt; is_confirmed(copies(alloc), copies(alloc)));
     assert!(rt; is_confirmed(lines_answer(alloc), lines_answer(alloc)));
     assert!(rt; is_confirmed(lines_are_compared(alloc), lines_are_compared(alloc)));
-}
-
-/// Nor does a node.
-#[test]
-fn a_node_changes_without_memory(rt: HostRuntime) {
-    assert!(rt; is_confirmed(converts(rt.alloc()), converts(rt.alloc())));
+    assert!(rt; is_confirmed(converts(alloc), converts(alloc)));
 }

@@ -70,15 +70,6 @@ fn has_stretches(alloc: Global, rows: &[Row]) -> Option<bool> {
 
 static TREES: [&[Row]; 4] = [&RIGHT_TO_LEFT, &TERM, &ERRORS, &NESTED];
 
-// This test and the next pass whichever request for memory is refused: `rt try --test --fail-alloc N`.
-#[test]
-fn stretches_have_the_tags_of_their_leaves(rt: HostRuntime) {
-    let alloc = rt.alloc();
-    for rows in &TREES {
-        assert!(rt; is_confirmed(has_stretches(alloc, rows), has_stretches(alloc, rows)));
-    }
-}
-
 /// The stretches of `NESTED`: where each ends, and its tag.
 static WANTED: [(usize, Option<Tag>); 8] = [
     (2, Some(Tag::Heading)),
@@ -102,7 +93,13 @@ fn are_wanted(alloc: Global) -> Option<bool> {
     Some(stretches.len() == WANTED.len())
 }
 
+/// Stretches have the tags of their leaves, an error that round it, whichever request for memory is refused:
+/// `rt try --test --fail-alloc N`.
 #[test]
-fn an_error_has_the_tag_round_it(rt: HostRuntime) {
-    assert!(rt; is_confirmed(are_wanted(rt.alloc()), are_wanted(rt.alloc())));
+fn stretches_have_the_tags_of_their_leaves(rt: HostRuntime) {
+    let alloc = rt.alloc();
+    for rows in &TREES {
+        assert!(rt; is_confirmed(has_stretches(alloc, rows), has_stretches(alloc, rows)));
+    }
+    assert!(rt; is_confirmed(are_wanted(alloc), are_wanted(alloc)));
 }

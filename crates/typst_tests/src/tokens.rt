@@ -4,11 +4,6 @@ use typst_kinds::{SyntaxKind, SyntaxMode};
 use typst_lexer::Lexer;
 use typst_lines::UnicodeClasses;
 
-/// A lexer of markup.
-fn lexer(text: &str) -> Lexer<'_, UnicodeClasses> {
-    Lexer::new(text, SyntaxMode::Markup, &UnicodeClasses)
-}
-
 /// A mode, a text that is one token in it, that token's kind, and whether it has a newline.
 type One = (SyntaxMode, &'static str, SyntaxKind, bool);
 
@@ -45,7 +40,8 @@ static STARTS: [Start; 6] = [(0, 0), (2, 1), (3, 2), (4, 3), (7, 0), (12, 2)];
 /// Tokens of the text begin there.
 #[test]
 fn counts_columns(rt: HostRuntime) {
-    let mut lexer = lexer("ä\tb\u{2028}\u{1f49b}c");
+    let text = "ä\tb\u{2028}\u{1f49b}c";
+    let mut lexer = Lexer::new(text, SyntaxMode::Markup, &UnicodeClasses);
     for (index, column) in &STARTS {
         assert!(rt; lexer.cursor() == *index && lexer.column(*index) == *column);
         assert!(rt; lexer.scan(rt.alloc()).is_ok());
@@ -70,7 +66,7 @@ fn ends_here(alloc: Global, lexer: &mut Lexer<'_, UnicodeClasses>) -> Option<boo
 
 /// Where a lexer of the text ends, of which each token is read again where memory was refused.
 fn end_of(alloc: Global, text: &str) -> Option<usize> {
-    let mut lexer = lexer(text);
+    let mut lexer = Lexer::new(text, SyntaxMode::Markup, &UnicodeClasses);
     for _ in 0..40 {
         if ends_here(alloc, &mut lexer)? {
             return Some(lexer.cursor());
@@ -89,7 +85,7 @@ fn stays_where_memory_is_refused(rt: HostRuntime) {
 
 /// How many tokens a text has; one more than so many where there are more.
 fn count(alloc: Global, text: &str, most: usize) -> Option<usize> {
-    let mut lexer = lexer(text);
+    let mut lexer = Lexer::new(text, SyntaxMode::Markup, &UnicodeClasses);
     for n in 0..most {
         let (token, _) = lexer.scan(alloc).ok()?;
         if token.kind.same(SyntaxKind::End) {

@@ -22,7 +22,7 @@ const TREE: [Row; 10] = [
     (SyntaxKind::Markup, "", Some(5)),
 ];
 
-/// Its nodes in preorder.
+/// The tree's nodes in preorder.
 const VISITS: [Seen; 10] = [
     (SyntaxKind::Markup, 0, 0),
     (SyntaxKind::Text, 0, 1),

@@ -1,7 +1,6 @@
 use crate::rows::{Row, leaf, tree};
 use crate::trees::{END, numbered, numbers};
 use std::alloc::Global;
-use std::mem::size_of;
 use typst_kinds::{FileId, Span, SpanNumber, SyntaxKind};
 use typst_tree::{LinkedNode, SyntaxNode, is_ordered};
 
@@ -63,16 +62,6 @@ fn place(numbers: &[u64], node: Option<LinkedNode>) -> Option<usize> {
     None
 }
 
-fn steps(numbers: &[u64], node: LinkedNode) -> [Option<usize>; 5] {
-    [
-        place(numbers, node.parent()),
-        place(numbers, node.next_sibling()),
-        place(numbers, node.prev_leaf()),
-        place(numbers, node.next_leaf()),
-        place(numbers, node.leftmost_leaf()),
-    ]
-}
-
 /// Whether the node with a number, which is found by it, has its range and its steps.
 fn is_at(
     top: LinkedNode,
@@ -82,7 +71,14 @@ fn is_at(
 ) -> Option<bool> {
     let node = top.find_number(SpanNumber::new(number)?)?;
     let is_there = node.offset() == begin && node.range().end == end;
-    Some(is_there && steps(numbers, node) == wanted)
+    let steps = [
+        place(numbers, node.parent()),
+        place(numbers, node.next_sibling()),
+        place(numbers, node.prev_leaf()),
+        place(numbers, node.next_leaf()),
+        place(numbers, node.leftmost_leaf()),
+    ];
+    Some(is_there && steps == wanted)
 }
 
 /// `TREE` with numbers, or nothing where memory was refused.
@@ -174,9 +170,4 @@ fn finds_the_first_without_order(rt: HostRuntime) {
     let top = LinkedNode::new(&root);
     assert!(rt; found(top, ten) == Some(0) && found(top, three) == Some(2));
     assert!(rt; found(top, Span::detached()) == Some(0));
-}
-
-#[test]
-fn is_small(rt: HostRuntime) {
-    assert!(rt; size_of::<LinkedNode>() <= 40);
 }

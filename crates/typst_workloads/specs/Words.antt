@@ -14,12 +14,3 @@ work_named word =
     else (if bytes_eq word (codes "html") then Some Html
     else (if bytes_eq word (codes "edit") then Some Edit
     else None)))))
-
--- the word that names the work
-abbrev pub word_of : Work → List ℕ
-word_of Lines = codes "lines"
-word_of Parse = codes "parse"
-word_of ParseCode = codes "parse-code"
-word_of ParseMath = codes "parse-math"
-word_of Html = codes "html"
-word_of Edit = codes "edit"

@@ -64,7 +64,7 @@ const IN_CODE: &[Marks] = &[
 /// What is typed before something is closed, of which the last letters are taken out again.
 const TYPED: &str = "revised";
 
-/// So many letters are taken out.
+/// How many letters are taken out.
 const TAKEN: usize = 3;
 
 /// Opens a brace, a bracket, a dollar sign, a quote and a backtick near the front of documents and packages
@@ -91,8 +91,9 @@ fn type_after(
     marks: Marks,
     outcome: &mut Outcome,
 ) -> anyhow::Result<()> {
-    let mut desk = Desk::new(source(alloc, random, shape, bytes)?, 0, 0);
-    let start = front_place(desk.text(), random, shape);
+    let source = source(alloc, random, shape, bytes)?;
+    let start = front_place(source.text(), random, shape);
+    let mut desk = Desk::new(source, 0, 0);
     open_and_close(alloc, &mut desk, start, marks, outcome)
 }
 

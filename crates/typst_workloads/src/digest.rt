@@ -1,27 +1,21 @@
 //! What is kept of results.
 
-use typst_parser::{Lines, SyntaxKind, SyntaxNode, Tag};
+use typst_parser::{SyntaxKind, SyntaxNode, Tag};
 
 /// A digest of numbers and texts in the order in which they came. What an edit reads and which numbers it
 /// gives isn't taken in, since states of this library that agree in every text and tree may differ in it.
 #[derive(Clone, Copy)]
 pub struct Digest {
-    value: u64,
+    /// What it is now.
+    pub value: u64,
 }
 
+/// The digest of nothing.
+const EMPTY: Digest = Digest {
+    value: 0xcbf2_9ce4_8422_2325,
+};
+
 impl Digest {
-    /// The digest of nothing.
-    pub fn new() -> Digest {
-        Digest {
-            value: 0xcbf2_9ce4_8422_2325,
-        }
-    }
-
-    /// What it is now.
-    pub fn value(&self) -> u64 {
-        self.value
-    }
-
     /// Takes in a number.
     pub fn add(&mut self, number: u64) {
         let mixed = (self.value ^ number).wrapping_mul(0x0000_0100_0000_01b3);
@@ -92,16 +86,6 @@ impl Digest {
         }
     }
 
-    /// Takes in where the lines of a text start, in bytes and UTF-16 units.
-    pub fn add_lines(&mut self, lines: &Lines<String>) {
-        for i in 0..lines.len_lines() {
-            if let Some(line) = lines.line(i) {
-                self.add_size(line.byte_idx());
-                self.add_size(line.utf16_idx());
-            }
-        }
-    }
-
     /// Takes in a tag that may be none by its name.
     pub fn add_tag(&mut self, tag: Option<Tag>) {
         match tag {
@@ -128,7 +112,7 @@ impl Outcome {
     /// That of no work.
     pub fn new() -> Outcome {
         Outcome {
-            digest: Digest::new(),
+            digest: EMPTY,
             held: 0,
             agreed: 0,
             differing: None,

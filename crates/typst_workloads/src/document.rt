@@ -241,35 +241,30 @@ fn push_display(text: &mut String, random: &mut Random) -> Result<(), AllocError
     text.push_str("z $\n\n")
 }
 
-/// Writes a function of code after its `let`.
+/// Writes a function of some statements of code after its `let`.
 fn push_function(text: &mut String, random: &mut Random) -> Result<(), AllocError> {
     let number = random.below(1000);
     write!(text, "item{number}(first, second: 12pt, ..rest) = {{\n")?;
     for _ in 0..random.between(1, 6) {
-        push_statement(text, random)?;
+        let number = random.below(100);
+        match random.below(5) {
+            0 => writeln!(
+                text,
+                "  let total = first * {number} + second.len() - 1 // a remark"
+            )?,
+            1 => writeln!(
+                text,
+                "  for (key, value) in rest.named() {{ if key == \"size\" and value > {number} {{ total += value }} else {{ continue }} }}"
+            )?,
+            2 => writeln!(text, "  set text(size: {number}pt, fill: rgb(\"#aa00cc\"))")?,
+            3 => writeln!(
+                text,
+                "  let names = (first, second).map(it => it.at({number}, default: none)).filter(it => it != none)"
+            )?,
+            _ => writeln!(text, "  [The *total* of #first is $x_{number}$.]")?,
+        }
     }
     text.push_str("  (total: total, list: (1, 2.5, 3em), name: \"x\\n\")\n}\n\n")
-}
-
-/// Writes a statement of code.
-fn push_statement(text: &mut String, random: &mut Random) -> Result<(), AllocError> {
-    let number = random.below(100);
-    match random.below(5) {
-        0 => writeln!(
-            text,
-            "  let total = first * {number} + second.len() - 1 // a remark"
-        ),
-        1 => writeln!(
-            text,
-            "  for (key, value) in rest.named() {{ if key == \"size\" and value > {number} {{ total += value }} else {{ continue }} }}"
-        ),
-        2 => writeln!(text, "  set text(size: {number}pt, fill: rgb(\"#aa00cc\"))"),
-        3 => writeln!(
-            text,
-            "  let names = (first, second).map(it => it.at({number}, default: none)).filter(it => it != none)"
-        ),
-        _ => writeln!(text, "  [The *total* of #first is $x_{number}$.]"),
-    }
 }
 
 /// Writes a figure with a table.
@@ -318,7 +313,15 @@ fn push_comment(text: &mut String, random: &mut Random) -> Result<(), AllocError
 fn push_nested(text: &mut String, random: &mut Random) -> Result<(), AllocError> {
     let depth = random.between(3, 30);
     if random.one_in(2) {
-        return push_lists(text, random, depth);
+        for level in 0..depth {
+            for _ in 0..level {
+                text.push_str("  ")?;
+            }
+            text.push_str("- ")?;
+            text.push_str(random.pick(PLAIN))?;
+            text.push_str("\n")?;
+        }
+        return text.push_str("\n");
     }
     for _ in 0..depth {
         text.push_str(random.pick(&["#box[", "#strong[", "#[", "#f(x)["]))?;
@@ -329,19 +332,6 @@ fn push_nested(text: &mut String, random: &mut Random) -> Result<(), AllocError>
         text.push_str("]")?;
     }
     text.push_str("\n\n")
-}
-
-/// Writes a list in a list, and so on, a given number of lines deep.
-fn push_lists(text: &mut String, random: &mut Random, depth: usize) -> Result<(), AllocError> {
-    for level in 0..depth {
-        for _ in 0..level {
-            text.push_str("  ")?;
-        }
-        text.push_str("- ")?;
-        text.push_str(random.pick(PLAIN))?;
-        text.push_str("\n")?;
-    }
-    text.push_str("\n")
 }
 
 /// Writes a paragraph of words past ASCII and some others.

@@ -33,46 +33,32 @@ pub enum Job {
     Sums,
 }
 
-/// All jobs.
-static ALL: [Job; 8] = [
-    Job::Typing,
-    Job::Blocks,
-    Job::Broken,
-    Job::Walking,
-    Job::Opening,
-    Job::Outside,
-    Job::Positions,
-    Job::Sums,
+/// All jobs, with their names.
+static ALL: [(&str, Job); 8] = [
+    ("typing", Job::Typing),
+    ("blocks", Job::Blocks),
+    ("broken", Job::Broken),
+    ("walking", Job::Walking),
+    ("opening", Job::Opening),
+    ("outside", Job::Outside),
+    ("positions", Job::Positions),
+    ("sums", Job::Sums),
 ];
 
+/// The jobs that a word names, with their names: one, or all by `all`, and none by another word.
+pub fn jobs_named(word: &str) -> &'static [(&'static str, Job)] {
+    if word == "all" {
+        return &ALL;
+    }
+    for named in &ALL {
+        if named.0 == word {
+            return slice::from_ref(named);
+        }
+    }
+    &[]
+}
+
 impl Job {
-    /// The jobs that a word names: one, or all by `all`, and none by another word.
-    pub fn named(word: &str) -> &'static [Job] {
-        if word == "all" {
-            return &ALL;
-        }
-        for job in &ALL {
-            if job.word() == word {
-                return slice::from_ref(job);
-            }
-        }
-        &[]
-    }
-
-    /// Its name.
-    pub fn word(self) -> &'static str {
-        match self {
-            Job::Typing => "typing",
-            Job::Blocks => "blocks",
-            Job::Broken => "broken",
-            Job::Walking => "walking",
-            Job::Opening => "opening",
-            Job::Outside => "outside",
-            Job::Positions => "positions",
-            Job::Sums => "sums",
-        }
-    }
-
     /// Does the job on so many rounds of inputs, of which each seed gives others.
     pub fn run(self, alloc: Global, seed: u64, rounds: usize) -> anyhow::Result<Outcome> {
         let mut outcome = Outcome::new();

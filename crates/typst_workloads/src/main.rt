@@ -18,7 +18,7 @@ mod walking;
 mod work;
 
 use digest::Outcome;
-use job::Job;
+use job::jobs_named;
 use std::time::Instant;
 use std::{env, io};
 use work::{Subject, Work};
@@ -36,13 +36,8 @@ fn main(rt: HostRuntime) -> anyhow::Result<()> {
         [jobs, seed, rounds, check] if check.as_str() == "check" => {
             do_jobs(&rt, jobs.as_str(), seed.as_str(), rounds.as_str(), true)
         }
-        _ => Err(unknown()),
+        _ => anyhow::bail!("{USAGE}"),
     }
-}
-
-/// The error of words that it doesn't take.
-fn unknown() -> anyhow::Error {
-    anyhow::anyhow!("{USAGE}")
 }
 
 /// Does the jobs of a name on so many rounds of inputs, and prints how many results were held against
@@ -57,14 +52,14 @@ fn do_jobs(
 ) -> anyhow::Result<()> {
     let seed = seed.parse::<u64>()?;
     let rounds = rounds.parse::<usize>()?;
-    let jobs = Job::named(name);
+    let jobs = jobs_named(name);
     if jobs.is_empty() {
-        return Err(unknown());
+        anyhow::bail!("{USAGE}");
     }
     let mut all_agree = true;
-    for job in jobs {
+    for (name, job) in jobs {
         let outcome = job.run(rt.alloc(), seed, rounds)?;
-        report(rt, *job, &outcome, is_check)?;
+        report(rt, *name, &outcome, is_check)?;
         all_agree = all_agree && outcome.differing.is_none();
     }
     if !all_agree {
@@ -77,14 +72,13 @@ fn do_jobs(
 /// `WORD bytes B checksum C` on standard output and the nanoseconds of a round on standard error.
 fn repeat(rt: &HostRuntime, word: &str, rounds: &str) -> anyhow::Result<()> {
     let Some(work) = Work::from_word(word) else {
-        return Err(unknown());
+        anyhow::bail!("{USAGE}");
     };
     let rounds = rounds.parse::<u64>()?;
     let text = io::read_to_string(rt.alloc(), rt.reader())?;
     let bytes = text.len();
     let mut subject = work.subject(rt.alloc(), text)?;
     let (checksum, nanoseconds) = timed(rt, &mut subject, rounds)?;
-    let word = work.word();
     println!(rt; "{word} bytes {bytes} checksum {checksum}")?;
     eprintln!(rt; "{nanoseconds}")?;
     Ok(())
@@ -102,11 +96,11 @@ fn timed(rt: &HostRuntime, subject: &mut Subject, rounds: u64) -> anyhow::Result
 }
 
 /// Prints what came of a job, and on standard error what differed.
-fn report(rt: &HostRuntime, job: Job, outcome: &Outcome, is_check: bool) -> anyhow::Result<()> {
-    let (word, held, agreed) = (job.word(), outcome.held, outcome.agreed);
+fn report(rt: &HostRuntime, word: &str, outcome: &Outcome, is_check: bool) -> anyhow::Result<()> {
+    let (held, agreed) = (outcome.held, outcome.agreed);
     print!(rt; "{word} held {held} agreed {agreed}")?;
     if !is_check {
-        let digest = outcome.digest.value();
+        let digest = outcome.digest.value;
         print!(rt; " digest {digest}")?;
     }
     println!(rt; "")?;

@@ -7,7 +7,7 @@ use crate::typing::{hold_tree, source};
 use std::alloc::Global;
 use typst_parser::{Source, UnicodeClasses, highlight_html};
 
-/// So many files has a project.
+/// How many files a project has.
 const FILES: usize = 22;
 
 /// Opens a project: documents of 2 to 50 kilobytes, packages, comments, formulas, nests, prose in other

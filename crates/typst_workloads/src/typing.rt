@@ -1,10 +1,10 @@
 //! Typing: each keystroke is one edit, and then positions are asked for what is shown.
 
-use crate::digest::{Digest, Outcome};
+use crate::digest::Outcome;
 use crate::document::{Shape, document};
 use crate::random::Random;
 use std::alloc::Global;
-use typst_parser::{Lines, LinkedNode, Source, SourceError, SyntaxKind, UnicodeClasses, parse};
+use typst_parser::{LinkedNode, Source, SourceError, SyntaxKind, UnicodeClasses, parse};
 
 /// What is typed letter by letter, of which the last letters are taken out again.
 const WORDS: &[&str] = &[
@@ -24,7 +24,7 @@ static MARKED: [&str; 9] = [
     "$a+b$", "*bold*", "_so_", "`raw`", "#f(x)", "[in]", "\"said\"", "// so", "= ",
 ];
 
-/// So many keystrokes lie between two words that open and close something.
+/// How many keystrokes lie between two words that open and close something.
 const BETWEEN_MARKED: usize = 300;
 
 /// Types into documents of 20, 100 and 300 kilobytes.
@@ -145,17 +145,18 @@ impl Desk {
         }
     }
 
-    /// The text as it is now.
-    pub fn text(&self) -> &str {
-        self.source.text()
-    }
-
-    /// Types a word somewhere, or what opens and closes something. In plain text a word's last letters are
-    /// taken out again, and elsewhere all of it, so that the text stays well-formed.
+    /// Types a word somewhere, or what opens and closes something, which is taken out again as a whole. In plain
+    /// text a word's last letters are taken out again, and elsewhere all of it, so that the text stays
+    /// well-formed.
     fn session(&mut self, random: &mut Random, outcome: &mut Outcome) -> anyhow::Result<()> {
         let start = self.place(random);
         if self.until_marked == 0 {
-            return self.marked_session(start, outcome);
+            let word = MARKED[self.turn % MARKED.len()];
+            self.until_marked = BETWEEN_MARKED;
+            self.turn = self.turn.wrapping_add(1);
+            let end = self.type_letters(start, word, outcome)?;
+            self.keystroke(start, end, "", outcome)?;
+            return Ok(());
         }
         let is_plain = match self.leaf_before(start) {
             None => false,
@@ -169,16 +170,6 @@ impl Desk {
             word.len()
         };
         self.take_out(end, letters, outcome)?;
-        Ok(())
-    }
-
-    /// Types what opens and closes something, and takes it out again as a whole.
-    fn marked_session(&mut self, start: usize, outcome: &mut Outcome) -> anyhow::Result<()> {
-        let word = MARKED[self.turn % MARKED.len()];
-        self.until_marked = BETWEEN_MARKED;
-        self.turn = self.turn.wrapping_add(1);
-        let end = self.type_letters(start, word, outcome)?;
-        self.keystroke(start, end, "", outcome)?;
         Ok(())
     }
 
@@ -265,8 +256,16 @@ impl Desk {
     /// Asks what an editor asks after a keystroke: the cursor's line, column and UTF-16 offset and the
     /// ways back, the leaf at the cursor, the bytes of its span, and the node of that.
     fn ask(&self, at: usize, outcome: &mut Outcome) {
-        let digest = &mut outcome.digest;
-        ask_position(self.source.lines(), at, digest);
+        let (digest, lines) = (&mut outcome.digest, self.source.lines());
+        let position = lines.byte_to_line_column(at);
+        digest.add_line_column(position);
+        if let Some((line, column)) = position {
+            digest.add_place(lines.line_column_to_byte(line, column));
+        }
+        if let Some(units) = lines.byte_to_utf16(at) {
+            digest.add_size(units);
+            digest.add_place(lines.utf16_to_byte(units));
+        }
         let Some(leaf) = self.leaf_before(at) else {
             return;
         };
@@ -289,19 +288,6 @@ impl Desk {
             return None;
         }
         LinkedNode::new(self.source.root()).leaf_at(at.saturating_sub(1))
-    }
-}
-
-/// Asks for a place's line, column and UTF-16 offset and the ways back.
-fn ask_position(lines: &Lines<String>, at: usize, digest: &mut Digest) {
-    let position = lines.byte_to_line_column(at);
-    digest.add_line_column(position);
-    if let Some((line, column)) = position {
-        digest.add_place(lines.line_column_to_byte(line, column));
-    }
-    if let Some(units) = lines.byte_to_utf16(at) {
-        digest.add_size(units);
-        digest.add_place(lines.utf16_to_byte(units));
     }
 }
 

@@ -1,6 +1,6 @@
 //! The kinds of work.
 ghost use Rattle.std.specs.Prelude.{◌≡◌};
-ghost use Rattle.typst_workloads.specs.Words.{word_of, work_named};
+ghost use Rattle.typst_workloads.specs.Words.{work_named};
 
 use crate::edited::Edited;
 use std::alloc::{AllocError, Global};
@@ -55,20 +55,6 @@ impl Work {
             "html" => Some(Work::Html),
             "edit" => Some(Work::Edit),
             _ => None,
-        }
-    }
-
-    /// Its name.
-    pub fn word(self) -> &'static str
-        ensures { result.now ≡ word_of self }
-    {
-        match self {
-            Work::Lines => "lines",
-            Work::Parse => "parse",
-            Work::ParseCode => "parse-code",
-            Work::ParseMath => "parse-math",
-            Work::Html => "html",
-            Work::Edit => "edit",
         }
     }
 

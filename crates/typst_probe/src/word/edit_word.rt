@@ -3,10 +3,9 @@
 ghost use Rattle.std.specs.Prelude.{◌≡◌};
 ghost use Rattle.typst_probe.specs.Words.{edit_word_named};
 
-use crate::{answers, calls, chain, edit_lines, edits, everywhere, example, handed, in_a_row};
+use crate::edits::After;
+use crate::{answers, calls, chain, edits, everywhere, example, handed, in_a_row};
 use std::alloc::{AllocError, Global};
-use typst_edited::cli::UnicodeClasses;
-use typst_fakes::{Narrow, Wide};
 
 /// What edits of a text answer.
 #[derive(Clone, Copy)]
@@ -68,19 +67,19 @@ impl EditWord {
     /// Prints the whole answer about a text.
     pub fn print(self, alloc: Global, printed: &mut String, text: &str) -> Result<(), AllocError> {
         match self {
-            EditWord::Edit => edits::print(alloc, printed, text, UnicodeClasses),
-            EditWord::EditWide => edits::print(alloc, printed, text, Wide),
-            EditWord::EditNarrow => edits::print(alloc, printed, text, Narrow),
-            EditWord::EditSpans => edits::print_spans(alloc, printed, text),
+            EditWord::Edit => edits::print(alloc, printed, text, After::Tree),
+            EditWord::EditWide => edits::print(alloc, printed, text, After::TreeWide),
+            EditWord::EditNarrow => edits::print(alloc, printed, text, After::TreeNarrow),
+            EditWord::EditSpans => edits::print(alloc, printed, text, After::Spans),
             EditWord::Edits => answers::print(alloc, printed, text),
             EditWord::InARow => in_a_row::print(alloc, printed, text),
             EditWord::Handed => handed::print(alloc, printed, text),
             EditWord::Example => example::print(alloc, printed, text),
             EditWord::Calls => calls::print(alloc, printed, text),
-            EditWord::Everywhere => everywhere::print(alloc, printed, text),
-            EditWord::EverywhereInTurn => everywhere::print_in_turn(alloc, printed, text),
+            EditWord::Everywhere => everywhere::print(alloc, printed, text, false),
+            EditWord::EverywhereInTurn => everywhere::print(alloc, printed, text, true),
             EditWord::EverywhereAt => everywhere::print_at(alloc, printed, text),
-            EditWord::EditLines => edit_lines::print(alloc, printed, text),
+            EditWord::EditLines => edits::print(alloc, printed, text, After::Lines),
             EditWord::Chain => chain::print(alloc, printed, text),
         }
     }

@@ -1,9 +1,9 @@
-//! What a session of a language server answers.
+//! What a session of a language server answers, and what its answers are made by.
 
 ghost use Rattle.std.specs.Prelude.{◌≡◌};
 ghost use Rattle.typst_probe_server.specs.Words.{session_word_named};
 
-use crate::{refused, sessions};
+use crate::{refused, sessions, tokens};
 use std::alloc::{AllocError, Global};
 use typst_server::ShownErrors;
 
@@ -18,6 +18,8 @@ pub enum SessionWord {
     SessionCut,
     /// How a session of the language server goes on where memory is refused.
     SessionRefused,
+    /// The edit between two lists of numbers, by which it answers for tokens that it sent before.
+    Deltas,
 }
 
 impl SessionWord {
@@ -30,6 +32,7 @@ impl SessionWord {
             "session-all-errors" => Some(SessionWord::SessionAllErrors),
             "session-cut" => Some(SessionWord::SessionCut),
             "session-refused" => Some(SessionWord::SessionRefused),
+            "deltas" => Some(SessionWord::Deltas),
             _ => None,
         }
     }
@@ -41,6 +44,7 @@ impl SessionWord {
             SessionWord::SessionAllErrors => sessions::answer(alloc, ShownErrors::All, text),
             SessionWord::SessionCut => sessions::cut_answer(alloc, text),
             SessionWord::SessionRefused => refused::answer(alloc, text),
+            SessionWord::Deltas => tokens::delta(alloc, text),
         }
     }
 }
